@@ -1,0 +1,28 @@
+mod build;
+mod fields;
+mod kind;
+mod mark;
+mod number;
+mod range;
+mod reader;
+mod records;
+mod refusal;
+mod section;
+mod split;
+mod token;
+
+pub use kind::Kind;
+pub use mark::Mark;
+pub use reader::read;
+pub use records::ActionKind;
+pub use records::ConnectionKind;
+pub use records::Field;
+pub use records::Opcode;
+pub use records::PickerKind;
+pub use records::QueueKind;
+pub use records::ReadingClass;
+pub use records::Record;
+pub use records::TriggerKind;
+pub use refusal::Refusal;
+pub use section::Section;
+pub use split::first_line;
