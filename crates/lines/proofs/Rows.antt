@@ -6,10 +6,10 @@ use native.Mathlib.Omega.{arith}
 use lib.IntN.{ℤ}
 use lib.ListN.{length, getD, set, take, drop, length-append, length-drop}
 use Rattle.std.specs.Written.{signed}
-use Rattle.std.proofs.shelf.Lists.{take-more, take-more-set, take-rest, map-push, take-all, drop-more, drop-all}
+use Rattle.std.proofs.shelf.Lists.{getD-set-other, take-more, take-more-set, take-rest, map-push, take-all, drop-more, drop-all}
 use Rattle.lines.specs.Fields.{Written, Each}
 use Rattle.lines.specs.Numbers.{Stops, integer}
-use Rattle.lines.specs.Texts.{tail, spot, spots, numbers, Spot, TokenAt, NoToken, Tokens, NoTokens}
+use Rattle.lines.specs.Texts.{tail, spot, spots, numbers, Spot, TokenAt, NoToken, Tokens, NoTokens, BlankAfter, blank}
 use Rattle.lines.specs.declared.kind.Kind.{Kind}
 use Rattle.lines.specs.declared.token.Token.{Token}
 use Rattle.lines.proofs.Digits.{signed-one}
@@ -105,6 +105,9 @@ more rest ks i ts left place d t so lt here =
 -- the same for the array of the code and the slice of it that is left
 pub again : (rest : List ℕ) (ks : List Kind) (i : ℕ) (found : List Token) (left : List ℕ) (place : ℕ) (d : Kind) (t : Token) → Sofar rest ks i (take i found) left place → i < length ks → i < length found → TokenAt left place (getD ks i d) (spot t) → Sofar rest ks (i + 1) (take (i + 1) (set found i t)) (take (length left - (t .len + 1)) (drop (t .len + 1) left)) (place + (t .len + 1))
 again rest ks i found left place d t so lt below here = rw (take-more-set found i t below, take-rest left (t .len + 1)) (more rest ks i (take i found) left place d t so lt here)
+
+pub blank-more : (i : ℕ) (ts : List Token) (t : Token) → BlankAfter i ts → BlankAfter (i + 1) (set ts i t)
+blank-more i ts t h j le = getD-set-other ts i j t blank (λ e. omega arith) ∙ h j (omega arith)
 
 pub no-more : (rest : List ℕ) (ks : List Kind) (i : ℕ) (ts : List Token) (left : List ℕ) (place : ℕ) (d : Kind) → Sofar rest ks i ts left place → i < length ks → NoToken left (getD ks i d) → NoTokens rest ks
 no-more rest ks i ts left place d so lt none zs ez is =

@@ -47,10 +47,10 @@ Written k (negsuc n) = Short (suc n) × (minus k ≡ true)
 
 -- a number lies in the range of this kind
 abbrev pub Within : Kind → ℤ → Type 0
-Within Number z = Unit {0}
-Within Time z = z ≤ℤ pos (10 ^ 18)
+Within Number z = pos 0 ≤ℤ z
+Within Time z = (pos 0 ≤ℤ z) × (z ≤ℤ pos (10 ^ 18))
 Within Value z = (negsuc 2147483647 ≤ℤ z) × (z ≤ℤ pos 2147483647)
-Within (UpTo n) z = z ≤ℤ pos n
+Within (UpTo n) z = (pos 0 ≤ℤ z) × (z ≤ℤ pos n)
 
 -- as many numbers as kinds, and each in a relation to its kind
 abbrev pub Each : (Kind → ℤ → Type 0) → List Kind → List ℤ → Type 0

@@ -1,5 +1,8 @@
 pub mod Fields
 pub mod Marks
 pub mod Numbers
+pub mod Reading
 pub mod Records
+pub mod Refusals
+pub mod Sections
 pub mod Texts

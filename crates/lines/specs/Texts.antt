@@ -1,11 +1,12 @@
 -- The text of a line, and where its fields stand in it.
+use mathlib.Core.Bool.{false}
 use mathlib.Core.List.{List, [], _∷_, _++_, map}
 use mathlib.Core.Path.{_≡_}
-use Prim.Native.Nat.{ℕ, _+_}
+use Prim.Native.Nat.{ℕ, zero, suc, _+_, _≤_}
 use lib.IntN.{ℤ}
-use lib.ListN.{length, drop}
+use lib.ListN.{length, getD, take, drop}
 use Rattle.std.specs.Written.{signed}
-use Rattle.lines.specs.Fields.{Written, Each}
+use Rattle.lines.specs.Fields.{Written, Each, schema}
 use Rattle.lines.specs.Marks.{letters}
 use Rattle.lines.specs.Numbers.{Stops, integer}
 use Rattle.lines.specs.declared.kind.Kind.{Kind}
@@ -45,8 +46,33 @@ spots at (z ∷ zs) = record { place = at + 1; len = length (signed z); number =
 abbrev pub spot : Token → Spot
 spot t = record { place = t .place; len = t .len; number = integer (t .negative) (t .size) }
 
+-- a token with its part of the line
+abbrev pub entry : List ℕ → Token → Entry
+entry line t = record { bytes = take (t .len) (drop (t .place) line); place = t .place; number = integer (t .negative) (t .size) }
+
+-- a token's part lies in the line
+abbrev pub Inside : List ℕ → Token → Type 0
+Inside line t = t .place + t .len ≤ length line
+
 abbrev pub numbers : List Token → List ℤ
 numbers ts = map (λ t. integer (t .negative) (t .size)) ts
+
+-- what an array of tokens is read as past its end
+abbrev pub blank : Token
+blank = record { place = 0; len = 0; negative = false; size = 0 }
+
+-- the tokens past the first n say nothing
+abbrev pub BlankAfter : ℕ → List Token → Type 0
+BlankAfter n ts = (i : ℕ) → n ≤ i → getD ts i blank ≡ blank
+
+-- the first tokens of an array, by their places in it
+abbrev pub listed : ℕ → ℕ → List Token → List Token
+listed i zero ts = []
+listed i (suc n) ts = getD ts i blank ∷ listed (i + 1) n ts
+
+-- as many as the mark has fields
+abbrev pub row : Mark → List Token → List Token
+row m ts = listed 0 (length (schema m)) ts
 
 -- a field of this kind stands in front of s, after a space at this place, and ends where the digits end
 pub record TokenAt (s : List ℕ) (at : ℕ) (k : Kind) (t : Spot) : Type 0 where

@@ -1,5 +1,16 @@
 // Records from tokens.
+ghost use mathlib.Core.List.{map};
+ghost use mathlib.Core.Path.{_≡_};
+ghost use Prim.Native.Nat.{ℕ, _≤_};
+ghost use lib.IntN.{pos};
+ghost use lib.ListN.{getD, take, drop};
+ghost use lib.Signed.{_≤ℤ_};
+ghost use Rattle.lines.specs.Fields.{Within, Each, schema};
+ghost use Rattle.lines.specs.Numbers.{integer};
+ghost use Rattle.lines.specs.Records.{action-code, connection-code, trigger-code, opcode-number, class-code, picker-code, queue-code, counted, valued, mark-of, fields-of};
+ghost use Rattle.lines.specs.Texts.{Inside, blank, entry, numbers, row};
 use crate::fields::MOST_FIELDS;
+use crate::kind::Kind;
 use crate::mark::Mark;
 use crate::records::ActionKind;
 use crate::records::ConnectionKind;
@@ -12,21 +23,27 @@ use crate::records::Record;
 use crate::records::TriggerKind;
 use crate::token::Token;
 
-fn action_kind(code: u64) -> ActionKind {
+fn action_kind(code: u64) -> ActionKind
+    ensures { λ r. ⌜ (code ≤ 1 → action-code r ≡ code) ⌝ }
+{
     match code {
         0 => ActionKind::Logical,
         _ => ActionKind::Physical,
     }
 }
 
-fn connection_kind(code: u64) -> ConnectionKind {
+fn connection_kind(code: u64) -> ConnectionKind
+    ensures { λ r. ⌜ (code ≤ 1 → connection-code r ≡ code) ⌝ }
+{
     match code {
         0 => ConnectionKind::Undelayed,
         _ => ConnectionKind::Delayed,
     }
 }
 
-fn trigger_kind(code: u64) -> TriggerKind {
+fn trigger_kind(code: u64) -> TriggerKind
+    ensures { λ r. ⌜ (code ≤ 3 → trigger-code r ≡ code) ⌝ }
+{
     match code {
         0 => TriggerKind::Input,
         1 => TriggerKind::Timer,
@@ -35,7 +52,9 @@ fn trigger_kind(code: u64) -> TriggerKind {
     }
 }
 
-fn opcode_of(code: u64) -> Opcode {
+fn opcode_of(code: u64) -> Opcode
+    ensures { λ r. ⌜ (code ≤ 9 → opcode-number r ≡ code) ⌝ }
+{
     match code {
         0 => Opcode::End,
         1 => Opcode::Put,
@@ -50,7 +69,9 @@ fn opcode_of(code: u64) -> Opcode {
     }
 }
 
-fn reading_class(code: u64) -> ReadingClass {
+fn reading_class(code: u64) -> ReadingClass
+    ensures { λ r. ⌜ (code ≤ 2 → class-code r ≡ code) ⌝ }
+{
     match code {
         0 => ReadingClass::Absent,
         1 => ReadingClass::AtMostZero,
@@ -58,114 +79,134 @@ fn reading_class(code: u64) -> ReadingClass {
     }
 }
 
-fn picker_kind(code: u64) -> PickerKind {
+fn picker_kind(code: u64) -> PickerKind
+    ensures { λ r. ⌜ (code ≤ 1 → picker-code r ≡ code) ⌝ }
+{
     match code {
         0 => PickerKind::Level,
         _ => PickerKind::Turn,
     }
 }
 
-fn queue_kind(code: u64) -> QueueKind {
+fn queue_kind(code: u64) -> QueueKind
+    ensures { λ r. ⌜ (code ≤ 1 → queue-code r ≡ code) ⌝ }
+{
     match code {
         0 => QueueKind::Heap,
         _ => QueueKind::List,
     }
 }
 
-// The part of the line that a token stands for.
-fn part<'a, T>(line: &'a [u8], token: &Token, value: T) -> Field<'a, T> {
+// A field of the line at a token.
+fn field_at<'a, T>(line: &'a [u8], token: &Token, value: T) -> Field<'a, T>
+    requires { ⌜ Inside (now line) (now token) ⌝ }
+    ensures text { λ r. ⌜ r .text .now ≡ take (now (token .entry) .len) (drop (now (token .entry) .place) (now (line .entry))) ⌝ }
+    ensures place { λ r. ⌜ r .place ≡ now (token .entry) .place ⌝ }
+    ensures value { λ r. ⌜ r .value ≡ value ⌝ }
+{
+    let end = token.place + token.len;
     Field {
-        text: &line[token.place..token.place + token.len],
+        text: &line[token.place..end],
         place: token.place,
         value,
     }
 }
 
-fn number<'a>(line: &'a [u8], token: &Token) -> Field<'a, u64> {
-    part(line, token, token.size)
+fn number_at<'a>(line: &'a [u8], token: &Token) -> Field<'a, u64>
+    requires { ⌜ Inside (now line) (now token) ⌝ }
+    ensures { λ r. ⌜ (pos 0 ≤ℤ integer (now (token .entry) .negative) (now (token .entry) .size) → counted r ≡ entry (now (line .entry)) (now (token .entry))) ⌝ }
+{
+    field_at(line, token, token.size)
 }
 
-fn value<'a>(line: &'a [u8], token: &Token) -> Field<'a, i32> {
-    let size = token.size as i64;
-    let signed = if token.negative { -size } else { size };
-    part(line, token, signed as i32)
+fn value_at<'a>(line: &'a [u8], token: &Token) -> Field<'a, i32>
+    requires inside { ⌜ Inside (now line) (now token) ⌝ }
+    requires range { ⌜ Within Kind.Value (integer (now token .negative) (now token .size)) ⌝ }
+    ensures { λ r. ⌜ valued r ≡ entry (now (line .entry)) (now (token .entry)) ⌝ }
+{
+    field_at(line, token, token.value())
 }
 
 // The record of a mark and its fields.
-pub(crate) fn record_of<'a>(line: &'a [u8], mark: Mark, tokens: &[Token; MOST_FIELDS]) -> Record<'a> {
+pub(crate) fn record_of<'a>(line: &'a [u8], mark: Mark, tokens: &[Token; MOST_FIELDS]) -> Record<'a>
+    requires inside { ⌜ ((i : ℕ) → Inside (now line) (getD (now tokens) i blank)) ⌝ }
+    requires ranges { ⌜ Each Within (schema mark) (numbers (row mark (now tokens))) ⌝ }
+    ensures mark { λ r. ⌜ mark-of r ≡ mark ⌝ }
+    ensures fields { λ r. ⌜ fields-of r ≡ map (entry (now (line .entry))) (row mark (now (tokens .entry))) ⌝ }
+{
     let [a, b, c, d, e] = tokens;
     match mark {
         Mark::Reactor => Record::Reactor,
         Mark::Input => Record::Input {
-            reactor: number(line, a),
+            reactor: number_at(line, a),
         },
         Mark::Output => Record::Output {
-            reactor: number(line, a),
+            reactor: number_at(line, a),
         },
         Mark::Timer => Record::Timer {
-            reactor: number(line, a),
-            first: number(line, b),
-            period: number(line, c),
+            reactor: number_at(line, a),
+            first: number_at(line, b),
+            period: number_at(line, c),
         },
         Mark::Action => Record::Action {
-            reactor: number(line, a),
-            kind: part(line, b, action_kind(b.size)),
-            delay: number(line, c),
+            reactor: number_at(line, a),
+            kind: field_at(line, b, action_kind(b.size)),
+            delay: number_at(line, c),
         },
         Mark::Connection => Record::Connection {
-            output: number(line, a),
-            input: number(line, b),
-            kind: part(line, c, connection_kind(c.size)),
-            delay: number(line, d),
+            output: number_at(line, a),
+            input: number_at(line, b),
+            kind: field_at(line, c, connection_kind(c.size)),
+            delay: number_at(line, d),
         },
         Mark::Reaction => Record::Reaction {
-            reactor: number(line, a),
-            body: number(line, b),
+            reactor: number_at(line, a),
+            body: number_at(line, b),
         },
         Mark::Trigger => Record::Trigger {
-            reaction: number(line, a),
-            kind: part(line, b, trigger_kind(b.size)),
-            source: number(line, c),
+            reaction: number_at(line, a),
+            kind: field_at(line, b, trigger_kind(b.size)),
+            source: number_at(line, c),
         },
         Mark::Write => Record::Write {
-            reaction: number(line, a),
-            output: number(line, b),
+            reaction: number_at(line, a),
+            output: number_at(line, b),
         },
         Mark::Schedule => Record::Schedule {
-            reaction: number(line, a),
-            action: number(line, b),
+            reaction: number_at(line, a),
+            action: number_at(line, b),
         },
         Mark::Stop => Record::Stop {
-            time: number(line, a),
+            time: number_at(line, a),
         },
         Mark::Bytecode => Record::Bytecode,
         Mark::Instruction => Record::Instruction {
-            opcode: part(line, a, opcode_of(a.size)),
-            first: number(line, b),
-            second: number(line, c),
-            operand: value(line, d),
+            opcode: field_at(line, a, opcode_of(a.size)),
+            first: number_at(line, b),
+            second: number_at(line, c),
+            operand: value_at(line, d),
         },
         Mark::Table => Record::Table,
         Mark::Row => Record::Row {
-            state: value(line, a),
-            class: part(line, b, reading_class(b.size)),
-            next: value(line, c),
-            target: number(line, d),
-            value: value(line, e),
+            state: value_at(line, a),
+            class: field_at(line, b, reading_class(b.size)),
+            next: value_at(line, c),
+            target: number_at(line, d),
+            value: value_at(line, e),
         },
         Mark::Start => Record::Start {
-            capacity: number(line, a),
-            picker: part(line, b, picker_kind(b.size)),
-            queue: part(line, c, queue_kind(c.size)),
+            capacity: number_at(line, a),
+            picker: field_at(line, b, picker_kind(b.size)),
+            queue: field_at(line, c, queue_kind(c.size)),
         },
         Mark::Offer => Record::Offer {
-            action: number(line, a),
-            arrival: number(line, b),
-            value: value(line, c),
+            action: number_at(line, a),
+            arrival: number_at(line, b),
+            value: value_at(line, c),
         },
         Mark::Advance => Record::Advance {
-            reading: number(line, a),
-            tags: number(line, b),
+            reading: number_at(line, a),
+            tags: number_at(line, b),
         },
     }
 }

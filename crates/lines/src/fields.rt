@@ -5,7 +5,7 @@ ghost use Prim.Native.Nat.{_+_, _^_, _≤_, _<_};
 ghost use lib.ListN.{length, take};
 ghost use Rattle.std.specs.Options.{Cases as BySome};
 ghost use Rattle.std.specs.Orderings.{When};
-ghost use Rattle.lines.specs.Texts.{TokenAt, NoToken, Tokens, NoTokens, spot};
+ghost use Rattle.lines.specs.Texts.{TokenAt, NoToken, Tokens, NoTokens, BlankAfter, spot};
 use crate::kind::Kind;
 use crate::number::Integer;
 use crate::number::integer_in_front;
@@ -45,7 +45,7 @@ fn is_line_feed(text: &[u8]) -> bool
 // The fields of a line, one of each kind, from what follows the mark.
 pub(crate) fn tokens_in(rest: &[u8], kinds: &[Kind]) -> Option<[Token; MOST_FIELDS]>
     requires { ⌜ length (now kinds) ≤ 5 ⌝ }
-    ensures { λ r. ⌜ BySome r (NoTokens (now (rest .entry)) (now (kinds .entry))) (λ ts. Tokens (now (rest .entry)) (now (kinds .entry)) (take (length (now (kinds .entry))) ts)) ⌝ }
+    ensures { λ r. ⌜ BySome r (NoTokens (now (rest .entry)) (now (kinds .entry))) (λ ts. Tokens (now (rest .entry)) (now (kinds .entry)) (take (length (now (kinds .entry))) ts) × BlankAfter (length (now (kinds .entry))) ts) ⌝ }
 {
     let none = Token {
         place: 0,

@@ -4,7 +4,7 @@ ghost use Rattle.lines.specs.Fields.{schema, minus};
 use crate::mark::Mark;
 
 #[derive(Clone, Copy)]
-pub enum Kind {
+pub(crate) enum Kind {
     // names a thing or counts: any number
     Number,
     // a time, a delay or a period

@@ -11,8 +11,6 @@ mod section;
 mod split;
 mod token;
 
-pub use kind::Kind;
-pub use mark::Mark;
 pub use reader::read;
 pub use records::ActionKind;
 pub use records::ConnectionKind;

@@ -4,7 +4,7 @@ ghost use Rattle.lines.specs.Marks.{Begins, Front};
 ghost use Rattle.lines.specs.declared.mark.Mark.{Mark as AnyMark};
 
 #[derive(Clone, Copy)]
-pub enum Mark {
+pub(crate) enum Mark {
     Reactor,
     Input,
     Output,

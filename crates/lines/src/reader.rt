@@ -1,4 +1,6 @@
 // A line, read to its record.
+ghost use Rattle.lines.specs.Numbers.{Numbers-are-digits};
+ghost use Rattle.lines.specs.Reading.{Reading, One-reading, One-answer};
 use crate::build::record_of;
 use crate::fields::tokens_in;
 use crate::mark::mark_in_front;
@@ -9,7 +11,12 @@ use crate::refusal::Refusal;
 use crate::section::Section;
 
 // What a line says, or why it is refused, where only some marks may come.
-pub fn read(line: &[u8], section: Section) -> Result<Record<'_>, Refusal> {
+pub fn read(line: &[u8], section: Section) -> Result<Record<'_>, Refusal>
+    ensures answer { λ r. ⌜ Reading section (now (line .entry)) r ⌝ }
+    ensures one_reading { λ _. ⌜ One-reading ⌝ }
+    ensures one_answer { λ _. ⌜ One-answer ⌝ }
+    ensures numbers_are_digits { λ _. ⌜ Numbers-are-digits ⌝ }
+{
     let Some((mark, rest)) = mark_in_front(line) else {
         return Err(Refusal::UnknownMark);
     };
@@ -20,7 +27,10 @@ pub fn read(line: &[u8], section: Section) -> Result<Record<'_>, Refusal> {
     let Some(tokens) = tokens_in(rest, kinds) else {
         return Err(Refusal::Malformed);
     };
-    if !all_within(kinds, &tokens) || !agree(mark, &tokens) {
+    if !all_within(kinds, &tokens) {
+        return Err(Refusal::OutOfRange);
+    }
+    if !agree(mark, &tokens) {
         return Err(Refusal::OutOfRange);
     }
     Ok(record_of(line, mark, &tokens))

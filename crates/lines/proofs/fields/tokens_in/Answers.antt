@@ -3,8 +3,8 @@ use mathlib.Core.Path.{_≡_, subst, _∙_}
 use native.Mathlib.Omega.{arith}
 use lib.ListN.{length, take}
 use Rattle.std.proofs.shelf.Lists.{length-set}
-use Rattle.lines.specs.Texts.{Tokens}
-use Rattle.lines.proofs.Rows.{again, no-more, wrong-end, ended, in-room}
+use Rattle.lines.specs.Texts.{Tokens, BlankAfter}
+use Rattle.lines.proofs.Rows.{again, blank-more, no-more, wrong-end, ended, in-room}
 use Rattle.lines.proofs.fields.tokens_in.Needs as need
 
 pub returns-in-Break-token : need.returns-in-Break-token
@@ -29,6 +29,7 @@ loop-i-again c =
     (
       again _ _ _ (c .loop-i .found) _ _ _ (c .in-Continue-token .token) (c .loop-i .inv .0) (c .loop-i-test .taken) (omega arith) (c .in-Continue-token .ensures tt),
       length-set _ _ _ ∙ c .loop-i .inv .1,
+      blank-more _ _ _ (c .loop-i .inv .2),
     )
 
 pub returns-then-not-is-line-feed : need.returns-then-not-is-line-feed
@@ -37,4 +38,4 @@ returns-then-not-is-line-feed c = wrong-end _ _ _ _ _ _ (c .loop-i .inv .0) (ome
 pub returns : need.returns
 returns c =
     let all : c .loop-i .i ≡ length (c .args .kinds .now) = omega arith in
-    subst (λ n. Tokens (c .args .rest .now) (c .args .kinds .now) (take n (c .loop-i .found))) all (ended _ _ _ _ _ _ (c .loop-i .inv .0) all (c .if-not-is-line-feed .ensures tt))
+    subst (λ n. Tokens (c .args .rest .now) (c .args .kinds .now) (take n (c .loop-i .found)) × BlankAfter n (c .loop-i .found)) all (ended _ _ _ _ _ _ (c .loop-i .inv .0) all (c .if-not-is-line-feed .ensures tt), c .loop-i .inv .2)
