@@ -97,7 +97,7 @@ number-text n short =
       few = length-decimal-le 19 n (omega arith) short wide;
       no-leading-zero = λ z. zero-alone (cases-eq n 0) z;
     }
-    where
+  where
     zero-alone : (n ≡ 0) ⊎ (n ≡ 0 → ⊥) → getD (decimal n) 0 0 ≡ 48 → length (decimal n) ≡ 1
     zero-alone (inl e) z = ap (λ k. length (decimal k)) e ∙ ap length (decimal-digit 0 (omega arith))
     zero-alone (inr f) z = let wide = short-64 n short in let big = first-decimal n (omega arith) wide in absurd (omega arith)

@@ -252,8 +252,8 @@ module _ (line : List ℕ) (m : Mark) (rest : List ℕ) (ts : List Token) (front
         fields = fields′ ∙ entries-at line (letters m) 2 (numbers (take (length (schema m)) ts)) (take (length (schema m)) ts) whole (two-letters m) (found .placed) ∙ ap (entries 2) (sym ns);
       }
 
--- what `read` knows once it has the tokens
-module _ (section : Section) (line : List ℕ) (m : Mark) (rest : List ℕ) (ks : List Kind) (ts : List Token) (may : MayCome section m) (front : Front line m rest) (is : ks ≡ schema m) (five : length ts ≡ 5) (got : Tokens rest ks (take (length ks) ts) × BlankAfter (length ks) ts) where
+-- what is known once the tokens are found
+module _ (line : List ℕ) (m : Mark) (rest : List ℕ) (ks : List Kind) (ts : List Token) (front : Front line m rest) (is : ks ≡ schema m) (five : length ts ≡ 5) (got : Tokens rest ks (take (length ks) ts) × BlankAfter (length ks) ts) where
   found : Tokens rest (schema m) (take (length (schema m)) ts)
   found = subst (λ l. Tokens rest l (take (length l) ts)) is (got .0)
 
@@ -266,11 +266,11 @@ module _ (section : Section) (line : List ℕ) (m : Mark) (rest : List ℕ) (ks 
   pub in-line : (i : ℕ) → Inside line (getD ts i blank)
   in-line = all-inside line m rest ts front five found (subst (λ l. BlankAfter (length l) ts) is (got .1))
 
-  pub out-of-its-range : (Each Within ks (numbers (take (length ks) ts)) → ⊥) → Reading section line (Err OutOfRange)
-  out-of-its-range out = out-of-range m _ may (front-says line m rest front _ found) (λ ranged. out (subst (λ l. Each Within l (numbers (take (length l) ts))) (sym is) (ranged .each)))
+  pub out-of-its-range : (section : Section) → MayCome section m → (Each Within ks (numbers (take (length ks) ts)) → ⊥) → Reading section line (Err OutOfRange)
+  out-of-its-range section may out = out-of-range m _ may (front-says line m rest front _ found) (λ ranged. out (subst (λ l. Each Within l (numbers (take (length l) ts))) (sym is) (ranged .each)))
 
-  pub out-of-agreement : (Agree m (numbers (row m ts)) → ⊥) → Reading section line (Err OutOfRange)
-  out-of-agreement out = out-of-range m _ may (front-says line m rest front _ found) (λ ranged. out (subst (λ l. Agree m (numbers l)) (sym (row-firsts line m rest ts front five found)) (ranged .agree)))
+  pub out-of-agreement : (section : Section) → MayCome section m → (Agree m (numbers (row m ts)) → ⊥) → Reading section line (Err OutOfRange)
+  out-of-agreement section may out = out-of-range m _ may (front-says line m rest front _ found) (λ ranged. out (subst (λ l. Agree m (numbers l)) (sym (row-firsts line m rest ts front five found)) (ranged .agree)))
 
-  pub reads-record : Each Within ks (numbers (take (length ks) ts)) → Agree m (numbers (row m ts)) → (r : Record) → mark-of r ≡ m → fields-of r ≡ map (entry line) (row m ts) → Reading section line (Ok r)
-  reads-record each agree r mark fields = reads r (subst (MayCome section) (sym mark) may) (tells line m rest ts front five found r (in-order each) agree mark fields)
+  pub reads-record : (section : Section) → MayCome section m → Each Within ks (numbers (take (length ks) ts)) → Agree m (numbers (row m ts)) → (r : Record) → mark-of r ≡ m → fields-of r ≡ map (entry line) (row m ts) → Reading section line (Ok r)
+  reads-record section may each agree r mark fields = reads r (subst (MayCome section) (sym mark) may) (tells line m rest ts front five found r (in-order each) agree mark fields)

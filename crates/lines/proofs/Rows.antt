@@ -113,7 +113,7 @@ pub no-more : (rest : List ℕ) (ks : List Kind) (i : ℕ) (ts : List Token) (le
 no-more rest ks i ts left place d so lt none zs ez is =
     let found = unread ks i (numbers ts) zs left (omega arith) (so .written) ez (so .stops) (so .whole ∙ is) in
     refute (found .0) (subst (λ l. Each Written l (found .0)) (drop-more ks i d lt) (found .1 .0)) (found .1 .1)
-    where
+  where
     refute : (ws : List ℤ) → Each Written (getD ks i d ∷ drop (i + 1) ks) ws → left ≡ tail ws → ⊥
     refute [] e l = e
     refute (w ∷ ws) e l = none w (tail ws) (e .0) (stops-tail ws) l
@@ -122,7 +122,7 @@ pub wrong-end : (rest : List ℕ) (ks : List Kind) (i : ℕ) (ts : List Token) (
 wrong-end rest ks i ts left place so all wrong zs ez is =
     let found = unread ks i (numbers ts) zs left (omega arith) (so .written) ez (so .stops) (so .whole ∙ is) in
     refute (found .0) (subst (λ l. Each Written l (found .0)) (drop-all i ks (omega arith)) (found .1 .0)) (found .1 .1)
-    where
+  where
     refute : (ws : List ℤ) → Each Written [] ws → left ≡ tail ws → ⊥
     refute [] e l = wrong l
     refute (w ∷ ws) e l = e

@@ -5,4 +5,5 @@ pub mod Reading
 pub mod Records
 pub mod Refusals
 pub mod Sections
+pub mod Split
 pub mod Texts

@@ -21,7 +21,11 @@ fn token_in_front(text: &[u8], place: usize, kind: Kind) -> Option<Token>
     let [b' ', field @ ..] = text else {
         return None;
     };
-    let Integer { negative, size, len } = integer_in_front(field)?;
+    let Integer {
+        negative,
+        size,
+        len,
+    } = integer_in_front(field)?;
     if negative && !kind.may_be_negative() {
         return None;
     }

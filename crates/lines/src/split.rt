@@ -1,16 +1,27 @@
 // An input cut into lines.
+ghost use mathlib.Core.List.{[]};
+ghost use mathlib.Core.Path.{_≡_};
+ghost use Rattle.std.specs.Options.{Cases as BySome};
+ghost use Rattle.lines.specs.Split.{LineLen, FirstLine};
+
+// How many bytes the first line takes, with its line feed where it has one.
+fn line_len(input: &[u8]) -> usize
+    ensures { λ r. ⌜ LineLen (now (input .entry)) r ⌝ }
+{
+    for (i, byte) in input.iter().enumerate() {
+        if *byte == b'\n' {
+            return i + 1;
+        }
+    }
+    input.len()
+}
 
 // The first line, with its line feed where it has one, and what follows it; none of an empty input.
-pub fn first_line(input: &[u8]) -> Option<(&[u8], &[u8])> {
+pub fn first_line(input: &[u8]) -> Option<(&[u8], &[u8])>
+    ensures { λ r. ⌜ BySome r (now (input .entry) ≡ []) (λ p. FirstLine (now (input .entry)) (now (p .0)) (now (p .1))) ⌝ }
+{
     if input.is_empty() {
         return None;
     }
-    let mut end = 0;
-    while end < input.len() && input[end] != b'\n' {
-        end += 1;
-    }
-    if end < input.len() {
-        end += 1;
-    }
-    Some((&input[0..end], &input[end..]))
+    Some(input.split_at(line_len(input)))
 }

@@ -22,6 +22,6 @@ pub returns : need.returns
 returns c =
     token-some (c .args .text .now) _ (c .args .kind) (front _ 32 (search needs) (search needs)) _ _ _ _ (c .in-Continue-negative .ensures tt)
     (λ below. elim (c .else-negative .came) [
-      else-negative·by·then-negative·else-not-may-be-negative w ↦ sym (w .if-not-may-be-negative .ensures tt)
-    | else-negative·by·else-negative w ↦ absurd (both-ways _ (w .if-negative .left) below)
+      | else-negative·by·then-negative·else-not-may-be-negative w ↦ sym (w .if-not-may-be-negative .ensures tt)
+      | else-negative·by·else-negative w ↦ absurd (both-ways _ (w .if-negative .left) below)
     ])

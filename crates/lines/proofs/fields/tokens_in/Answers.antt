@@ -25,8 +25,7 @@ part-left-start c = let fits = in-room _ _ _ _ (c .in-Continue-token .ensures tt
 pub loop-i-again : need.loop-i-again
 loop-i-again c =
     let few = c .pre in
-    let five = c .loop-i .inv .1 in
-    (
+    let five = c .loop-i .inv .1 in (
       again _ _ _ (c .loop-i .found) _ _ _ (c .in-Continue-token .token) (c .loop-i .inv .0) (c .loop-i-test .taken) (omega arith) (c .in-Continue-token .ensures tt),
       length-set _ _ _ ∙ c .loop-i .inv .1,
       blank-more _ _ _ (c .loop-i .inv .2),

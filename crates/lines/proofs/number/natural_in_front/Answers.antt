@@ -22,7 +22,7 @@ pub returns : need.returns
 returns c =
     natural-some (c .args .text .now) (c .digits-in-front-len .result) _ (c .digits-in-front-len .ensures) (omega arith) (omega arith)
     (λ zero. elim (c .else-len-gt1 .came) [
-      else-len-gt1·by·then-len-gt1·else-text-eq48 w ↦ absurd (w .if-text-eq48 .left zero)
-    | else-len-gt1·by·else-len-gt1 w ↦ w .if-len-gt1 .left
+      | else-len-gt1·by·then-len-gt1·else-text-eq48 w ↦ absurd (w .if-text-eq48 .left zero)
+      | else-len-gt1·by·else-len-gt1 w ↦ w .if-len-gt1 .left
     ])
     (c .number-of-value .ensures ∙ ap (λ n. value 10 (take n (c .args .text .now))) (sub-zero _))

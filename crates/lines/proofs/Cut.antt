@@ -1,0 +1,25 @@
+-- The first line of an input, from the number of its bytes.
+use mathlib.Core.List.{List, [], _++_}
+use mathlib.Core.Path.{_≡_, sym, ap, subst, _∙_}
+use Prim.Native.Nat.{ℕ, _+_, _-_, _≤_, _<_}
+use native.Mathlib.Omega.{arith}
+use lib.ListN.{length, getD, take, drop, length-append}
+use Rattle.std.proofs.shelf.Lists.{take-append-drop, length-take-le, getD-take, drop-all}
+use Rattle.lines.specs.Split.{LineLen, FirstLine}
+
+pub cut : (input : List ℕ) (n : ℕ) → LineLen input n → 0 < length input → FirstLine input (take n input) (drop n input)
+cut input n len more =
+    let long : length (take n input) ≡ n = length-take-le n input (len .within) in
+    let some : 0 < n = len .some more in
+    record {
+      whole = sym (take-append-drop n input);
+      some = omega arith;
+      one-feed = λ k lt feed. len .one-feed k (omega arith) (sym (getD-take n input k 0 (omega arith)) ∙ feed);
+      ended = λ none. drop-all n input (let all = len .ended (λ feed. none (ap (λ m. getD (take n input) (m - 1) 0) long ∙ getD-take n input (n - 1) 0 (omega arith) ∙ feed)) in omega arith);
+    }
+
+pub shorter : (input line rest : List ℕ) → FirstLine input line rest → length rest < length input
+shorter input line rest first =
+    let long = ap length (first .whole) ∙ length-append line rest in
+    let some = first .some in
+    omega arith
