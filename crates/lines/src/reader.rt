@@ -52,8 +52,7 @@ fn laws()
     ensures one_reading { λ _. ⌜ One-reading ⌝ }
     ensures one_answer { λ _. ⌜ One-answer ⌝ }
     ensures numbers_are_digits { λ _. ⌜ Numbers-are-digits ⌝ }
-{
-}
+{}
 
 // What a line says, or why it is refused, where only the marks of a section may come.
 pub fn read(line: &[u8], section: Section) -> Result<Record<'_>, Refusal>
