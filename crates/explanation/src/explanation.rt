@@ -1,7 +1,7 @@
 // The whole text, a line for each line of the input.
 use crate::network;
 use crate::words::refusal_words;
-use lines::first_line;
+use input::first_line;
 use outline::Progress;
 use outline::Told;
 use std::fmt;

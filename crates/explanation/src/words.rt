@@ -3,8 +3,8 @@ use lines::ActionKind;
 use lines::PickerKind;
 use lines::QueueKind;
 use lines::ReadingClass;
-use lines::Refusal;
 use lines::TriggerKind;
+use refusals::Refusal;
 
 pub(crate) fn action_word(kind: ActionKind) -> &'static str {
     match kind {

@@ -3,7 +3,5 @@ pub mod Marks
 pub mod Numbers
 pub mod Reading
 pub mod Records
-pub mod Refusals
 pub mod Sections
-pub mod Split
 pub mod Texts

@@ -13,8 +13,8 @@ use Rattle.lines.specs.Sections.{MayCome}
 use Rattle.lines.specs.Texts.{Entry, entries, text}
 use Rattle.lines.specs.declared.mark.Mark.{Mark}
 use Rattle.lines.specs.declared.records.Record.{Record}
-use Rattle.lines.specs.declared.refusal.Refusal.{Refusal}
-use Rattle.lines.specs.declared.refusal.Refusal.the-variants.{UnknownMark, Malformed, OutOfRange}
+use Rattle.refusals.specs.declared.refusal.Refusal.{Refusal}
+use Rattle.refusals.specs.declared.refusal.Refusal.the-variants.{UnknownMark, Malformed, OutOfRange}
 use Rattle.lines.specs.declared.section.Section.{Section}
 
 -- a line is well formed: it is the text of a mark and of numbers that its fields may write

@@ -6,9 +6,7 @@ mod number;
 mod range;
 mod reader;
 mod records;
-mod refusal;
 mod section;
-mod split;
 mod token;
 
 pub use reader::read;
@@ -21,6 +19,4 @@ pub use records::QueueKind;
 pub use records::ReadingClass;
 pub use records::Record;
 pub use records::TriggerKind;
-pub use refusal::Refusal;
 pub use section::Section;
-pub use split::first_line;

@@ -13,8 +13,8 @@ use crate::mark::mark_in_front;
 use crate::range::agree;
 use crate::range::all_within;
 use crate::records::Record;
-use crate::refusal::Refusal;
 use crate::section::Section;
+use refusals::Refusal;
 
 // The mark in front of a line, where it may come, and the rest of the line.
 fn mark_for(line: &[u8], section: Section) -> Result<(Mark, &[u8]), Refusal>

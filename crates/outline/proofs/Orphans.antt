@@ -7,8 +7,8 @@ use Rattle.std.specs.declared.result.Result.{Result}
 use Rattle.std.specs.declared.result.Result.the-variants.{Ok, Err}
 use Rattle.lines.specs.Reading.{Reading, One-answer, told}
 use Rattle.lines.specs.declared.records.Record.{Record}
-use Rattle.lines.specs.declared.refusal.Refusal.{Refusal}
-use Rattle.lines.specs.declared.refusal.Refusal.the-variants.{UnknownMark, Malformed}
+use Rattle.refusals.specs.declared.refusal.Refusal.{Refusal}
+use Rattle.refusals.specs.declared.refusal.Refusal.the-variants.{UnknownMark, Malformed}
 use Rattle.lines.specs.declared.section.Section.{Section}
 use Rattle.outline.specs.Counting.{Orphan}
 use Rattle.outline.specs.Telling.{Here, no-mark, orphan}

@@ -10,8 +10,8 @@ use Rattle.lines.specs.declared.records.PickerKind.{PickerKind}
 use Rattle.lines.specs.declared.records.QueueKind.{QueueKind}
 use Rattle.lines.specs.declared.records.Record.{Record}
 use Rattle.lines.specs.declared.records.Record.the-variants.{Start}
-use Rattle.lines.specs.declared.refusal.Refusal.{Refusal}
-use Rattle.lines.specs.declared.refusal.Refusal.the-variants.{UnknownMark, Malformed}
+use Rattle.refusals.specs.declared.refusal.Refusal.{Refusal}
+use Rattle.refusals.specs.declared.refusal.Refusal.the-variants.{UnknownMark, Malformed}
 use Rattle.lines.specs.declared.section.Section.{Section}
 use Rattle.lines.specs.declared.section.Section.the-variants.{Run}
 use Rattle.outline.specs.Counting.{counters, counted, Orphan}

@@ -7,9 +7,9 @@ ghost use Rattle.outline.specs.Telling.{Leads, Here, Tells};
 use crate::counts::Counts;
 use crate::told::Told;
 use lines::Record;
-use lines::Refusal;
 use lines::Section;
 use lines::read;
+use refusals::Refusal;
 
 #[derive(Clone, Copy)]
 pub struct Progress {

@@ -1,7 +1,7 @@
 // What is to be said of one line.
 use crate::counts::Counts;
 use lines::Record;
-use lines::Refusal;
+use refusals::Refusal;
 
 #[derive(Clone, Copy)]
 pub enum Told<'a> {

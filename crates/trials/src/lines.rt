@@ -1,8 +1,8 @@
 // Lines and the number of the refusal of each, 0 where it is read.
+use input::first_line;
 use lines::ReadingClass;
 use lines::Record;
 use lines::Section;
-use lines::first_line;
 use lines::read;
 use std::test::*;
 

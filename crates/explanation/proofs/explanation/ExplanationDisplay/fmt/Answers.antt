@@ -1,4 +1,4 @@
-use Rattle.lines.proofs.Cut.{shorter}
+use Rattle.input.proofs.Cut.{shorter}
 use Rattle.explanation.proofs.explanation.ExplanationDisplay.fmt.Needs as need
 
 pub loop-line-less : need.loop-line-less

@@ -1,7 +1,7 @@
 use borrow.Author.Needs.{needs}
 use Rattle.std.proofs.shelf.Lists.{nil-from-length}
-use Rattle.lines.proofs.Cut.{cut}
-use Rattle.lines.proofs.split.first_line.Needs as need
+use Rattle.input.proofs.Cut.{cut}
+use Rattle.input.proofs.split.first_line.Needs as need
 
 pub returns-then-is-empty : need.returns-then-is-empty
 returns-then-is-empty c = nil-from-length _ (search needs)

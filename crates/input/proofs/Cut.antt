@@ -5,7 +5,7 @@ use Prim.Native.Nat.{ℕ, _+_, _-_, _≤_, _<_}
 use native.Mathlib.Omega.{arith}
 use lib.ListN.{length, getD, take, drop, length-append}
 use Rattle.std.proofs.shelf.Lists.{take-append-drop, length-take-le, getD-take, drop-all}
-use Rattle.lines.specs.Split.{LineLen, FirstLine}
+use Rattle.input.specs.Split.{LineLen, FirstLine}
 
 pub cut : (input : List ℕ) (n : ℕ) → LineLen input n → 0 < length input → FirstLine input (take n input) (drop n input)
 cut input n len more =

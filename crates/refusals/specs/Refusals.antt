@@ -1,7 +1,7 @@
 -- The number of each refusal.
 use Prim.Native.Nat.{ℕ}
-use Rattle.lines.specs.declared.refusal.Refusal.{Refusal}
-use Rattle.lines.specs.declared.refusal.Refusal.the-variants.{UnknownMark, Malformed, OutOfRange}
+use Rattle.refusals.specs.declared.refusal.Refusal.{Refusal}
+use Rattle.refusals.specs.declared.refusal.Refusal.the-variants.{UnknownMark, Malformed, OutOfRange}
 
 abbrev pub refusal-number : Refusal → ℕ
 refusal-number UnknownMark = 1

@@ -2,7 +2,7 @@
 ghost use mathlib.Core.List.{[]};
 ghost use mathlib.Core.Path.{_≡_};
 ghost use Rattle.std.specs.Options.{Cases as BySome};
-ghost use Rattle.lines.specs.Split.{LineLen, FirstLine};
+ghost use Rattle.input.specs.Split.{LineLen, FirstLine};
 
 // How many bytes the first line takes, with its line feed where it has one.
 fn line_len(input: &[u8]) -> usize

@@ -1,6 +1,6 @@
 // Why a line is refused.
 ghost use mathlib.Core.Path.{_≡_};
-ghost use Rattle.lines.specs.Refusals.{refusal-number};
+ghost use Rattle.refusals.specs.Refusals.{refusal-number};
 
 #[derive(Clone, Copy)]
 pub enum Refusal {

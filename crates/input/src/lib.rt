@@ -1,0 +1,4 @@
+// A program's input, cut into lines.
+mod split;
+
+pub use split::first_line;
