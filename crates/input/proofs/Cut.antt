@@ -5,7 +5,14 @@ use Prim.Native.Nat.{ℕ, _+_, _-_, _≤_, _<_}
 use native.Mathlib.Omega.{arith}
 use lib.ListN.{length, getD, take, drop, length-append}
 use Rattle.std.proofs.shelf.Lists.{take-append-drop, length-take-le, getD-take, drop-all}
-use Rattle.input.specs.Split.{LineLen, FirstLine}
+use Rattle.input.specs.Split.{FirstLine}
+
+-- the first line of input takes n bytes
+pub record LineLen (input : List ℕ) (n : ℕ) : Type 0 where
+  pub within : n ≤ length input
+  pub some : 0 < length input → 0 < n
+  pub one-feed : (k : ℕ) → k + 1 < n → getD input k 0 ≡ 10 → ⊥
+  pub ended : (getD input (n - 1) 0 ≡ 10 → ⊥) → n ≡ length input
 
 pub cut : (input : List ℕ) (n : ℕ) → LineLen input n → 0 < length input → FirstLine input (take n input) (drop n input)
 cut input n len more =

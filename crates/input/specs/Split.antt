@@ -1,15 +1,8 @@
 -- An input and its first line.
 use mathlib.Core.List.{List, [], _++_}
 use mathlib.Core.Path.{_≡_}
-use Prim.Native.Nat.{ℕ, _+_, _-_, _≤_, _<_}
+use Prim.Native.Nat.{ℕ, _+_, _-_, _<_}
 use lib.ListN.{length, getD}
-
--- the first line of input takes n bytes
-pub record LineLen (input : List ℕ) (n : ℕ) : Type 0 where
-  pub within : n ≤ length input
-  pub some : 0 < length input → 0 < n
-  pub one-feed : (k : ℕ) → k + 1 < n → getD input k 0 ≡ 10 → ⊥
-  pub ended : (getD input (n - 1) 0 ≡ 10 → ⊥) → n ≡ length input
 
 -- line is the first line of input, and rest is what follows it
 pub record FirstLine (input line rest : List ℕ) : Type 0 where
