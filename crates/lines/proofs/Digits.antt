@@ -5,7 +5,7 @@ use mathlib.Core.Logic.{_⊎_, inl, inr, ⊎-elim}
 use mathlib.Core.List.{List, [], _∷_, _++_}
 use Prim.Native.Nat.{ℕ, zero, suc, _+_, _-_, _*_, _^_, _≤_, _<_}
 use native.Mathlib.Omega.{arith}
-use lib.IntN.{ℤ, pos, negsuc, negℤ}
+use lib.IntN.{ℤ, pos, negsuc}
 use native.Mathlib.Numerals.{add-one}
 use lib.ListN.{length, getD, take, drop, take-append-drop}
 use native.Mathlib.Nat.{pow-le-pow-right, add-zero}
@@ -14,7 +14,7 @@ use Rattle.std.specs.Text.{digitValue, In, NotAsciiDigit}
 use Rattle.std.specs.Written.{decimal, signed}
 use Rattle.std.proofs.shelf.Digits.{value-more, value-lt}
 use Rattle.std.proofs.shelf.Numerals.{digit-from-value, digit-at, Numerals, numerals-by-value, tells-digits}
-use Rattle.std.proofs.shelf.Decimals.{decimal-value, decimal-reads, length-decimal-le, decimal-some, first-decimal, same-from-decimal, digits-decimal, value-decimal, decimal-digit}
+use Rattle.std.proofs.shelf.Decimals.{decimal-value, length-decimal-le, decimal-some, first-decimal, same-from-decimal, digits-decimal, decimal-digit}
 use Rattle.std.proofs.shelf.Lists.{length-take-le, getD-take, getD-drop, drop-all, getD-append-left}
 use Rattle.std.proofs.shelf.Parts.{first-rest}
 use Rattle.std.proofs.shelf.Tests.{cases-eq}

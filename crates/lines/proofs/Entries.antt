@@ -6,7 +6,6 @@ use native.Mathlib.Omega.{arith}
 use lib.IntN.{ℤ, pos}
 use lib.ListN.{take, drop}
 use lib.Signed.{_≤ℤ_}
-use borrow.Author.Needs.{needs}
 use Rattle.std.proofs.shelf.Signed.{ints}
 use Rattle.lines.specs.Numbers.{integer}
 use Rattle.lines.specs.Records.{field}

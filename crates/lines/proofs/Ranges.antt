@@ -1,10 +1,10 @@
 -- Ranges of the fields of a line.
 use mathlib.Core.Bool.{Bool, true, false}
-use mathlib.Core.List.{List, [], _∷_, _++_}
+use mathlib.Core.List.{List, [], _∷_}
 use mathlib.Core.Path.{_≡_, refl, sym, ap, subst, _∙_}
 use Prim.Native.Nat.{ℕ, zero, suc, _+_, _≤_, _<_}
 use native.Mathlib.Omega.{arith}
-use lib.IntN.{ℤ, pos, negsuc}
+use lib.IntN.{ℤ, pos}
 use lib.ListN.{length, getD, take, drop}
 use lib.Signed.{_≤ℤ_}
 use mir.Syntax.{w32}
@@ -12,7 +12,7 @@ use mir.Val.{SFits, toZ, ofZ}
 use Rattle.std.specs.Orderings.{Decides}
 use Rattle.std.proofs.shelf.Lists.{take-more, map-more, getD-map, getD-take, length-take-le, drop-more}
 use Rattle.std.proofs.shelf.Signed.{toZ-ofZ}
-use Rattle.lines.specs.Fields.{Written, Within, Each, Agree, Operand, schema}
+use Rattle.lines.specs.Fields.{Within, Each, Agree, Operand, schema}
 use Rattle.lines.specs.Numbers.{integer}
 use Rattle.lines.specs.Texts.{numbers, listed, row, blank}
 use Rattle.lines.specs.declared.kind.Kind.{Kind}

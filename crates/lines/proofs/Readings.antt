@@ -1,10 +1,9 @@
 -- A line has one reading, and `read` gives it.
-use mathlib.Core.Bool.{Bool, true, false, cond, _&&_}
+use mathlib.Core.Bool.{cond, _&&_}
 use mathlib.Core.List.{List, [], _∷_, _++_, map, append-assoc}
-use mathlib.Core.Logic.{inl, inr, ⊎-elim}
+use mathlib.Core.Logic.{inl, ⊎-elim}
 use mathlib.Core.Path.{_≡_, refl, sym, ap, subst, _∙_}
-use Prim.Native.Nat.{ℕ, zero, suc, _+_, _-_, _≤_, _<_}
-use native.Mathlib.Nat.{zero-add}
+use Prim.Native.Nat.{ℕ, zero, suc, _+_, _≤_, _<_}
 use native.Mathlib.Omega.{arith}
 use borrow.Author.Needs.{needs}
 use lib.Dec.{eqb}
@@ -21,7 +20,7 @@ use Rattle.lines.specs.Numbers.{integer}
 use Rattle.lines.specs.Reading.{Says, Ranged, Tells, Reading, reads, no-mark, malformed, out-of-range, One-reading, One-answer, numbers-of, told}
 use Rattle.lines.specs.Records.{mark-of, fields-of}
 use Rattle.lines.specs.Sections.{MayCome}
-use Rattle.lines.specs.Texts.{tail, text, Entry, entries, entry, Spot, spot, spots, Inside, blank, BlankAfter, numbers, row, Tokens, NoTokens}
+use Rattle.lines.specs.Texts.{tail, entries, entry, spot, spots, Inside, blank, BlankAfter, numbers, row, Tokens, NoTokens}
 use Rattle.lines.specs.declared.kind.Kind.{Kind}
 use Rattle.lines.specs.declared.mark.Mark.{Mark}
 use Rattle.lines.specs.declared.mark.Mark.the-variants.{Reactor, Input, Output, Timer, Action, Connection, Reaction, Trigger, Write, Schedule, Stop, Bytecode, Instruction, Table, Row, Start, Offer, Advance}

@@ -2,7 +2,7 @@ use native.Mathlib.Omega.{arith}
 use mathlib.Core.Path.{ap, _∙_}
 use Rattle.std.specs.Reads.{value}
 use Rattle.std.proofs.shelf.Lists.{take-all}
-use Rattle.lines.proofs.Digits.{Step, step}
+use Rattle.lines.proofs.Digits.{step}
 use Rattle.lines.proofs.number.number_of.Needs as need
 
 pub mul-n : need.mul-n
