@@ -18,7 +18,8 @@ use Rattle.std.proofs.shelf.Decimals.{decimal-value, length-decimal-le, decimal
 use Rattle.std.proofs.shelf.Lists.{length-take-le, getD-take, getD-drop, drop-all, getD-append-left}
 use Rattle.std.proofs.shelf.Parts.{first-rest}
 use Rattle.std.proofs.shelf.Tests.{cases-eq}
-use Rattle.lines.specs.Numbers.{Short, ShortZ, Stops, NumberText, Numbers-are-digits, Run, NaturalAt, NoNatural, IntegerAt, NoInteger}
+use Rattle.lines.specs.Numbers.{Short, ShortZ, NumberText, Numbers-are-digits}
+use Rattle.lines.specs.Steps.{Stops, Run, NaturalAt, NoNatural, IntegerAt, NoInteger}
 
 own : Numerals (Digits 10) (value 10)
 own = numerals-by-value (Digits 10) tells-digits

@@ -7,9 +7,8 @@ use lib.IntN.{ℤ, pos}
 use lib.ListN.{take, drop}
 use lib.Signed.{_≤ℤ_}
 use Rattle.std.proofs.shelf.Signed.{ints}
-use Rattle.lines.specs.Numbers.{integer}
+use Rattle.lines.specs.Steps.{integer, entry}
 use Rattle.lines.specs.Records.{field}
-use Rattle.lines.specs.Texts.{entry}
 use Rattle.lines.specs.declared.records.Field.{Field}
 use Rattle.lines.specs.declared.token.Token.{Token}
 use Rattle.lines.proofs.Ranges.{not-negative}

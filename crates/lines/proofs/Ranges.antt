@@ -13,8 +13,7 @@ use Rattle.std.specs.Orderings.{Decides}
 use Rattle.std.proofs.shelf.Lists.{take-more, map-more, getD-map, getD-take, length-take-le, drop-more}
 use Rattle.std.proofs.shelf.Signed.{toZ-ofZ}
 use Rattle.lines.specs.Fields.{Within, Each, Agree, Operand, schema}
-use Rattle.lines.specs.Numbers.{integer}
-use Rattle.lines.specs.Texts.{numbers, listed, row, blank}
+use Rattle.lines.specs.Steps.{integer, numbers, listed, row, blank}
 use Rattle.lines.specs.declared.kind.Kind.{Kind}
 use Rattle.lines.specs.declared.mark.Mark.{Mark}
 use Rattle.lines.specs.declared.mark.Mark.the-variants.{Instruction}

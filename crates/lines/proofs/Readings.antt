@@ -15,12 +15,12 @@ use Rattle.std.specs.declared.result.Result.the-variants.{Ok, Err}
 use Rattle.std.proofs.shelf.Lists.{take-at, drop-at, take-rest, append-cancel-left, length-push, length-take-le, getD-take}
 use Rattle.std.proofs.shelf.Tests.{cases-lt}
 use Rattle.lines.specs.Fields.{Each, Written, Within, Agree, schema}
-use Rattle.lines.specs.Marks.{letters, Begins, Front}
-use Rattle.lines.specs.Numbers.{integer}
+use Rattle.lines.specs.Marks.{letters, Begins}
+use Rattle.lines.specs.Steps.{Front, integer, entry, spot, spots, Inside, blank, BlankAfter, numbers, row, Tokens, NoTokens}
 use Rattle.lines.specs.Reading.{Says, Ranged, Tells, Reading, reads, no-mark, malformed, out-of-range, One-reading, One-answer, numbers-of, told}
 use Rattle.lines.specs.Records.{mark-of, fields-of}
 use Rattle.lines.specs.Sections.{MayCome}
-use Rattle.lines.specs.Texts.{tail, entries, entry, spot, spots, Inside, blank, BlankAfter, numbers, row, Tokens, NoTokens}
+use Rattle.lines.specs.Texts.{tail, entries}
 use Rattle.lines.specs.declared.kind.Kind.{Kind}
 use Rattle.lines.specs.declared.mark.Mark.{Mark}
 use Rattle.lines.specs.declared.mark.Mark.the-variants.{Reactor, Input, Output, Timer, Action, Connection, Reaction, Trigger, Write, Schedule, Stop, Bytecode, Instruction, Table, Row, Start, Offer, Advance}

@@ -8,8 +8,8 @@ use lib.ListN.{length, getD, set, take, drop, length-append, length-drop}
 use Rattle.std.specs.Written.{signed}
 use Rattle.std.proofs.shelf.Lists.{getD-set-other, take-more, take-more-set, take-rest, map-push, take-all, drop-more, drop-all}
 use Rattle.lines.specs.Fields.{Written, Each}
-use Rattle.lines.specs.Numbers.{Stops, integer}
-use Rattle.lines.specs.Texts.{tail, spot, spots, numbers, Spot, TokenAt, NoToken, Tokens, NoTokens, BlankAfter, blank}
+use Rattle.lines.specs.Steps.{Stops, integer, spot, spots, numbers, Spot, TokenAt, NoToken, Tokens, NoTokens, BlankAfter, blank}
+use Rattle.lines.specs.Texts.{tail}
 use Rattle.lines.specs.declared.kind.Kind.{Kind}
 use Rattle.lines.specs.declared.token.Token.{Token}
 use Rattle.lines.proofs.Digits.{signed-one}

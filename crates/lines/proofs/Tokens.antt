@@ -11,8 +11,8 @@ use Rattle.std.specs.Written.{signed}
 use Rattle.std.proofs.shelf.Lists.{length-take-le}
 use Rattle.std.proofs.shelf.Tests.{both-ways}
 use Rattle.lines.specs.Fields.{Written, minus}
-use Rattle.lines.specs.Numbers.{ShortZ, Stops, IntegerAt, NoInteger, integer}
-use Rattle.lines.specs.Texts.{TokenAt, NoToken}
+use Rattle.lines.specs.Numbers.{ShortZ}
+use Rattle.lines.specs.Steps.{Stops, IntegerAt, NoInteger, integer, TokenAt, NoToken}
 use Rattle.lines.specs.declared.kind.Kind.{Kind}
 use Rattle.lines.proofs.Digits.{signed-one}
 

@@ -4,4 +4,5 @@ pub mod Numbers
 pub mod Reading
 pub mod Records
 pub mod Sections
+pub mod Steps
 pub mod Texts

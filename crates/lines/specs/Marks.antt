@@ -1,9 +1,9 @@
 -- The marks that lines begin with, and where each may come.
 use mathlib.Core.List.{List}
 use mathlib.Core.Path.{_≡_}
-use Prim.Native.Nat.{ℕ, _-_, _≤_}
+use Prim.Native.Nat.{ℕ}
 use lib.Chars.{codes}
-use lib.ListN.{length, getD, take, drop}
+use lib.ListN.{take}
 use Rattle.lines.specs.declared.mark.Mark.{Mark}
 use Rattle.lines.specs.declared.mark.Mark.the-variants.{Reactor, Input, Output, Timer, Action, Connection, Reaction, Trigger, Write, Schedule, Stop, Bytecode, Instruction, Table, Row, Start, Offer, Advance}
 
@@ -26,13 +26,6 @@ letters Row = codes "RW"
 letters Start = codes "GO"
 letters Offer = codes "OF"
 letters Advance = codes "AD"
-
--- the first two bytes of a line are a mark's letters, and rest follows them
-pub record Front (line : List ℕ) (m : Mark) (rest : List ℕ) : Type 0 where
-  pub long : 2 ≤ length line
-  pub first : getD line 0 0 ≡ getD (letters m) 0 0
-  pub second : getD line 1 0 ≡ getD (letters m) 1 0
-  pub after : rest ≡ take (length line - 2) (drop 2 line)
 
 -- a line begins with a mark's letters
 abbrev pub Begins : List ℕ → Mark → Type 0

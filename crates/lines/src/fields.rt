@@ -5,7 +5,7 @@ ghost use Prim.Native.Nat.{_+_, _^_, _≤_, _<_};
 ghost use lib.ListN.{length, take};
 ghost use Rattle.std.specs.Options.{Cases as BySome};
 ghost use Rattle.std.specs.Orderings.{When};
-ghost use Rattle.lines.specs.Texts.{TokenAt, NoToken, Tokens, NoTokens, BlankAfter, spot};
+ghost use Rattle.lines.specs.Steps.{TokenAt, NoToken, Tokens, NoTokens, BlankAfter, spot};
 use crate::kind::Kind;
 use crate::number::Integer;
 use crate::number::integer_in_front;

@@ -1,6 +1,7 @@
 // The two letters that a line begins with.
 ghost use Rattle.std.specs.Options.{Cases as BySome};
-ghost use Rattle.lines.specs.Marks.{Begins, Front};
+ghost use Rattle.lines.specs.Marks.{Begins};
+ghost use Rattle.lines.specs.Steps.{Front};
 ghost use Rattle.lines.specs.declared.mark.Mark.{Mark as AnyMark};
 
 #[derive(Clone, Copy)]

@@ -4,7 +4,7 @@ ghost use Prim.Native.Nat.{_≤_};
 ghost use lib.ListN.{length};
 ghost use Rattle.std.specs.Options.{Cases as BySome};
 ghost use Rattle.std.specs.Reads.{Digits, value};
-ghost use Rattle.lines.specs.Numbers.{Run, NaturalAt, NoNatural, IntegerAt, NoInteger};
+ghost use Rattle.lines.specs.Steps.{Run, NaturalAt, NoNatural, IntegerAt, NoInteger};
 
 const MOST_DIGITS: usize = 19;
 

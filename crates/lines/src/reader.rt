@@ -1,7 +1,7 @@
 // A line, read to its record.
 ghost use Rattle.std.specs.Results.{Cases};
 ghost use Rattle.std.specs.declared.result.Result.the-variants.{Err as Refused};
-ghost use Rattle.lines.specs.Marks.{Front};
+ghost use Rattle.lines.specs.Steps.{Front};
 ghost use Rattle.lines.specs.Numbers.{Numbers-are-digits};
 ghost use Rattle.lines.specs.Reading.{Reading, One-reading, One-answer};
 ghost use Rattle.lines.specs.Sections.{MayCome};

@@ -2,7 +2,7 @@
 ghost use mathlib.Core.Path.{_≡_};
 ghost use lib.IntN.{pos, negsuc};
 ghost use lib.Signed.{_≤ℤ_};
-ghost use Rattle.lines.specs.Numbers.{integer};
+ghost use Rattle.lines.specs.Steps.{integer};
 
 #[derive(Clone, Copy)]
 pub(crate) struct Token {

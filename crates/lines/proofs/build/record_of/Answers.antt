@@ -2,7 +2,7 @@ use mathlib.Core.List.{[], _∷_, map}
 use mathlib.Core.Path.{sym, ap, subst, _∙_}
 use Rattle.lines.specs.Fields.{Each, Within, schema}
 use Rattle.lines.specs.Records.{opcode-number, class-code}
-use Rattle.lines.specs.Texts.{entry, numbers, row}
+use Rattle.lines.specs.Steps.{entry, numbers, row}
 use Rattle.lines.proofs.Entries.{kind-entry}
 use Rattle.lines.proofs.build.record_of.Needs as need
 

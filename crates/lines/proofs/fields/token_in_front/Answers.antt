@@ -3,7 +3,7 @@ use mathlib.Core.Path.{sym, subst}
 use Prim.Native.Nat.{_-_}
 use lib.ListN.{length, take, drop}
 use Rattle.std.proofs.shelf.Tests.{both-ways}
-use Rattle.lines.specs.Numbers.{IntegerAt}
+use Rattle.lines.specs.Steps.{IntegerAt}
 use Rattle.lines.proofs.Digits.{front}
 use Rattle.lines.proofs.Tokens.{token-none, token-minus, token-some}
 use Rattle.lines.proofs.fields.token_in_front.Needs as need

@@ -3,7 +3,7 @@ use mathlib.Core.Path.{_≡_, subst, _∙_}
 use native.Mathlib.Omega.{arith}
 use lib.ListN.{length, take}
 use Rattle.std.proofs.shelf.Lists.{length-set}
-use Rattle.lines.specs.Texts.{Tokens, BlankAfter}
+use Rattle.lines.specs.Steps.{Tokens, BlankAfter}
 use Rattle.lines.proofs.Rows.{again, blank-more, no-more, wrong-end, ended, in-room}
 use Rattle.lines.proofs.fields.tokens_in.Needs as need
 

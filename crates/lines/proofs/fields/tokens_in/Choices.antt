@@ -1,6 +1,6 @@
 use mathlib.Core.Path.{_≡_}
 use lib.ListN.{length, take}
-use Rattle.lines.specs.Texts.{BlankAfter}
+use Rattle.lines.specs.Steps.{BlankAfter}
 use Rattle.lines.proofs.Rows.{Sofar}
 use Rattle.lines.proofs.fields.tokens_in.Given as given
 

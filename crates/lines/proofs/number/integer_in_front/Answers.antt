@@ -2,7 +2,7 @@ use mathlib.Core.Path.{subst}
 use Prim.Native.Nat.{ℕ, _-_}
 use borrow.Author.Needs.{needs}
 use lib.ListN.{length, take, drop}
-use Rattle.lines.specs.Numbers.{NaturalAt}
+use Rattle.lines.specs.Steps.{NaturalAt}
 use Rattle.lines.proofs.Digits.{minus-none, minus-zero, minus-some, front}
 use Rattle.lines.proofs.number.integer_in_front.Needs as need
 

@@ -5,7 +5,7 @@ use Rattle.std.proofs.shelf.Lists.{take-all}
 use Rattle.std.proofs.shelf.Tests.{false≢true}
 use mathlib.Core.Path.{refl}
 use Rattle.lines.specs.Fields.{Written, Within, Each}
-use Rattle.lines.specs.Texts.{numbers}
+use Rattle.lines.specs.Steps.{numbers}
 use Rattle.lines.proofs.Ranges.{at-place, one-more}
 use Rattle.lines.proofs.range.all_within.Needs as need
 

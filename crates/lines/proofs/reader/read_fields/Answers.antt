@@ -2,7 +2,7 @@ use borrow.Author.Needs.{needs}
 use mathlib.Core.Path.{refl, subst}
 use Rattle.std.proofs.shelf.Tests.{false≢true}
 use Rattle.lines.specs.Reading.{malformed}
-use Rattle.lines.specs.Texts.{NoTokens}
+use Rattle.lines.specs.Steps.{NoTokens}
 use Rattle.lines.proofs.Readings.{front-begins, front-silent, in-ranges, in-line, out-of-its-range, out-of-agreement, reads-record}
 use Rattle.lines.proofs.reader.read_fields.Needs as need
 
