@@ -40,9 +40,9 @@ of_network (Start c p q) = false
 of_network (Offer a t v) = false
 of_network (Advance u n) = false
 
-abbrev pub is_networks_lem : Told → Bool
-is_networks_lem (told.Declared r before) = of_network r
-is_networks_lem (told.Refused e) = false
+abbrev pub is_networks : Told → Bool
+is_networks (told.Declared r before) = of_network r
+is_networks (told.Refused e) = false
 
 -- what is told of a line that a network does not take
 abbrev pub Because : BuildError → Result Told AllocError → Type 0
@@ -52,10 +52,10 @@ Because build.NoMemory (Err e) = Unit {0}
 
 -- a line is told as it stands; one of the network is also taken into it, and where that refuses it, it is refused and nothing changes
 pub data Drafts (from : Draft) (line : List ℕ) (to : Draft) : Result Told AllocError → Type 0 where
-  elsewhere : (t : Told) → Tells from.progress line to.progress t → is_networks_lem t ≡ false → parts_of to.assembly ≡ parts_of from.assembly → Drafts from line to (Ok t)
-  accepted : (t : Told) → Tells from.progress line to.progress t → is_networks_lem t ≡ true → Takes (parts_of from.assembly) line (Ok tt) (parts_of to.assembly) → Drafts from line to (Ok t)
-  refused : (t : Told) (after : Progress) (e : Refusal) → Tells from.progress line after t → is_networks_lem t ≡ true → Takes (parts_of from.assembly) line (Err (build.Refused e)) (parts_of to.assembly) → to.progress ≡ from.progress → Drafts from line to (Ok (told.Refused e))
-  no_memory : (t : Told) (after : Progress) (e : AllocError) → Tells from.progress line after t → is_networks_lem t ≡ true → Takes (parts_of from.assembly) line (Err build.NoMemory) (parts_of to.assembly) → to.progress ≡ from.progress → Drafts from line to (Err e)
+  elsewhere : (t : Told) → Tells from.progress line to.progress t → is_networks t ≡ false → parts_of to.assembly ≡ parts_of from.assembly → Drafts from line to (Ok t)
+  accepted : (t : Told) → Tells from.progress line to.progress t → is_networks t ≡ true → Takes (parts_of from.assembly) line (Ok tt) (parts_of to.assembly) → Drafts from line to (Ok t)
+  refused : (t : Told) (after : Progress) (e : Refusal) → Tells from.progress line after t → is_networks t ≡ true → Takes (parts_of from.assembly) line (Err (build.Refused e)) (parts_of to.assembly) → to.progress ≡ from.progress → Drafts from line to (Ok (told.Refused e))
+  no_memory : (t : Told) (after : Progress) (e : AllocError) → Tells from.progress line after t → is_networks t ≡ true → Takes (parts_of from.assembly) line (Err build.NoMemory) (parts_of to.assembly) → to.progress ≡ from.progress → Drafts from line to (Err e)
 
 -- nothing was told yet
 pub record Fresh (d : Draft) : Type 0 where

@@ -1,4 +1,6 @@
 // What a file has declared so far, and what its next line says.
+#![tactic(auto)]
+
 mod draft;
 mod file;
 mod telling;

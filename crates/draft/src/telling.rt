@@ -1,6 +1,6 @@
 // What is to be said of the next line of a file.
 ghost use Rattle.std.specs.Prelude.{◌≡◌};
-ghost use Rattle.draft.specs.Drafting.{Because, Drafts, Fresh, is_networks_lem};
+ghost use Rattle.draft.specs.Drafting.{Because, Drafts, Fresh, is_networks};
 
 use crate::draft::Draft;
 use lines::Record;
@@ -11,7 +11,7 @@ use std::alloc::{AllocError, Global};
 
 // Whether a network takes what a line declares.
 fn is_networks(told: Told<'_>) -> bool
-    ensures { result ≡ is_networks_lem told.entry }
+    ensures { result ≡ is_networks told.entry }
 {
     let Told::Declared { record, .. } = told else {
         return false;

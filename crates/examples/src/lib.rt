@@ -1,5 +1,7 @@
 // Worked examples: what the definitions give at chosen values, and that the code computes the same.
 // So far of sums of a tag and a delay, and of circles of reactions; examples of bodies join them as hosts come.
+#![tactic(auto)]
+
 ghost use Rattle.std.specs.Prelude.{◌≡◌, ◌<◌, ◌≤◌, None};
 ghost use Rattle.std.specs.Option.{option_map};
 ghost use Rattle.tags.specs.Tags.{tag_at, moment_of, last_time, tag_plus};

@@ -9,7 +9,7 @@ pub(crate) fn first_file(input: &[u8]) -> Option<(&[u8], &[u8])>
 {
     let mut rest = input;
     while let Some((line, after)) = first_line(rest) {
-        if line == b"--\n" {
+        if line == b"--\n".as_slice() {
             return Some((&input[..input.len() - rest.len()], after));
         }
         rest = after;

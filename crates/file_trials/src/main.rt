@@ -1,4 +1,6 @@
 // Reads files, each ended by a line of two dashes, and prints all that is said and read of each.
+#![tactic(auto)]
+
 mod explained;
 mod file;
 mod reads;

@@ -1,5 +1,5 @@
 -- What freezing answers.
-use Rattle.std.specs.Prelude.{◌≡◌, Ok, Err, vec_items, Result}
+use Rattle.std.specs.Prelude.{◌≡◌, Ok, Err, Result}
 use Rattle.levels.specs.Chains.{Circle}
 use Rattle.network.specs.Meaning.{parts_of}
 use Rattle.network.specs.Tables.{Parts}
@@ -10,7 +10,7 @@ use Rattle.precedence.specs.declared.precedence.PrecedenceError.TheVariants as e
 use Rattle.refusals.specs.declared.error.BuildError.{BuildError}
 use Rattle.refusals.specs.declared.error.BuildError.TheVariants.{Refused, NoMemory}
 use Rattle.refusals.specs.declared.refusal.Refusal.TheVariants as refusal
-use Rattle.frozen.specs.declared.network.Network.{Network}
+use Rattle.frozen.specs.declared.frozen.Network.{Network}
 
 -- what a frozen network declares
 abbrev pub declared_by : Network → Parts

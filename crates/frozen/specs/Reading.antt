@@ -1,5 +1,5 @@
 -- What is read of a frozen network.
-use Rattle.std.specs.Prelude.{◌≡◌, ℕ, ◌<◌, ◌≤◌, length, Some, None, Option}
+use Rattle.std.specs.Prelude.{ℕ, ◌<◌, ◌≤◌, length, Some, None, Option}
 use Rattle.levels.specs.Chains.{Level}
 use Rattle.network.specs.Tables.{Parts}
 use Rattle.precedence.specs.Direct.{Directly}

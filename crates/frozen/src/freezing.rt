@@ -2,7 +2,7 @@
 ghost use Rattle.network.specs.Meaning.{parts_of};
 ghost use Rattle.frozen.specs.Freezing.{Freezes, Why};
 
-use crate::network::Network;
+use crate::frozen::Network;
 use network::Assembly;
 use precedence::{Precedence, PrecedenceError};
 use refusals::{BuildError, Refusal};

@@ -1,7 +1,9 @@
 // Frozen networks: what an assembly declared, for good.
+#![tactic(auto)]
+
 mod freezing;
-mod network;
+mod frozen;
 mod reads;
 
 pub use freezing::freeze;
-pub use network::Network;
+pub use frozen::Network;

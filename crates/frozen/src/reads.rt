@@ -1,12 +1,12 @@
 // What a frozen network is asked.
 ghost use Rattle.std.specs.Prelude.{◌≡◌, [], map, vec_items, slice_index_or};
 ghost use Rattle.network.specs.Held.{held};
-ghost use Rattle.precedence.specs.Answers.{Holds, Means, order_of_lem};
+ghost use Rattle.precedence.specs.Answers.{Holds, Means, order_of};
 ghost use Rattle.precedence.specs.Tests.{all_joinings, all_readings, all_targets, graph};
 ghost use Rattle.frozen.specs.Freezing.{declared_by};
 ghost use Rattle.frozen.specs.Reading.{Leveled};
 
-use crate::network::Network;
+use crate::frozen::Network;
 use network::{Connection, Tables, Target, Trigger};
 use precedence::Precedence;
 use rows::group_at;
@@ -64,7 +64,7 @@ impl Network {
 
     // The reactions by level, and those of one level by number.
     pub fn order(&self) -> &[usize]
-        ensures by_level { result.now ≡ order_of_lem (declared_by self.now) }
+        ensures by_level { result.now ≡ order_of (declared_by self.now) }
         ensures each_once_after_what_precedes_it { Means (declared_by self.now) }
     {
         self.known().order.as_slice()

@@ -1,4 +1,6 @@
 // A program's input, cut into lines.
+#![tactic(auto)]
+
 mod split;
 
 pub use split::first_line;

@@ -1,5 +1,5 @@
 -- Going back from a node to which chains of any length lead comes round.
-use Rattle.std.proofs.Common.{◌≡◌, ℕ, zero, suc, ◌+◌, ◌-◌, ◌<◌, ◌≤◌, ◌⊎◌, List, [], ◌∷◌, ◌++◌, reverse, length, get_or, take, drop, sym, refl, ap, ◌∙◌, subst, inl, inr, ⊎_elim, arith}
+use Rattle.std.proofs.Common.{◌≡◌, ℕ, zero, suc, ◌+◌, ◌-◌, ◌<◌, ◌≤◌, List, [], ◌∷◌, ◌++◌, reverse, length, get_or, take, drop, sym, refl, ap, ◌∙◌, subst, inl, inr, ⊎_elim, arith}
 use Rattle.std.proofs.lemmas.List.{length_push, length-reverse, length-drop, get_or-drop, get_or_push, get_or_append_left, reverse-append, take_rest}
 use Rattle.levels.specs.Chains.{Has, Edge, Leads, Round, longest}
 use Rattle.levels.specs.Rounds.{AllBelow, EdgesBelow, Longest}

@@ -1,4 +1,6 @@
 // Levels of a graph: the longest chain to each node, or a circle.
+#![tactic(auto)]
+
 mod circle;
 mod error;
 mod level;

@@ -1,3 +1,5 @@
+#![tactic(auto)]
+
 mod build;
 mod fields;
 mod kind;

@@ -1,4 +1,6 @@
 // Networks: what lines declare.
+#![tactic(auto)]
+
 mod add;
 mod assembly;
 mod declared;

@@ -37,7 +37,7 @@ impl Owned for Reaction {
 
 // The reactor of a thing, by its number.
 pub(crate) fn reactor_at<T: Owned>(things: &[T], n: usize) -> Option<usize>
-    ensures { Finds (map belongs things.now) n result }
+    ensures { Finds (map T.belongs things.now) n result }
 {
     if n >= things.len() {
         return None;

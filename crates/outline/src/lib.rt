@@ -1,4 +1,6 @@
 // What each line of a file declares where it stands: things are numbered as they come.
+#![tactic(auto)]
+
 mod counts;
 mod progress;
 mod told;

@@ -1,5 +1,5 @@
 -- The tests of precedence say what directly precedes what.
-use Rattle.std.proofs.Common.{◌≡◌, ℕ, zero, suc, ◌+◌, ◌<◌, ◌≤◌, Bool, true, false, cond, ◌&&◌, ◌||◌, eqb, ltb, ◌⊎◌, List, [], ◌∷◌, map, length, get_or, filter, sym, refl, ap, ◌∙◌, subst, inl, inr, ⊎_elim, arith}
+use Rattle.std.proofs.Common.{◌≡◌, ℕ, zero, suc, ◌+◌, ◌<◌, ◌≤◌, Bool, true, false, cond, ◌&&◌, ◌||◌, eqb, ◌⊎◌, List, [], ◌∷◌, map, length, get_or, filter, sym, refl, ap, ◌∙◌, subst, inl, inr, ⊎_elim, arith}
 use Rattle.std.specs.List.{range_with_len}
 use Rattle.std.proofs.lemmas.List.FromFn.{get_or-map-range_with_len, length-map-range_with_len}
 use Rattle.std.proofs.lemmas.List.{get_or_past}
@@ -17,7 +17,7 @@ use Rattle.network.specs.declared.parts.TargetKind.TheVariants as target
 use Rattle.network.specs.declared.parts.Trigger.{Trigger}
 use Rattle.rows.specs.Rows.{some, with_key}
 use Rattle.precedence.specs.Direct.{MaySet, JoinedUndelayed, TakesIn, Directly, same_reactor, joined}
-use Rattle.precedence.specs.Tests.{sets, is_output, without_delay, undelayed, is_input_lem, takes_input, readings_of, targets_of, joinings_of, all_readings, all_targets, all_joinings, fed, reached, precedes, predecessors, graph}
+use Rattle.precedence.specs.Tests.{sets, is_output, without_delay, undelayed, is_input, takes_input, readings_of, targets_of, joinings_of, all_readings, all_targets, all_joinings, fed, reached, precedes, predecessors, graph}
 
 -- what a conjunction or a disjunction of tests says
 both : (a b : Bool) → (a && b) ≡ true → (a ≡ true) × (b ≡ true)
@@ -94,7 +94,7 @@ undelayed_kind : (k : ConnectionKind) → without_delay k ≡ true → k ≡ Und
 undelayed_kind Undelayed e = refl
 undelayed_kind Delayed e = absurd (let z : ◌≡◌ {A = ℕ} 0 1 = cc in omega arith)
 
-input_kind : (k : TriggerKind) → is_input_lem k ≡ true → (k ≡ trigger.Input) ⊎ (k ≡ trigger.ReadInput)
+input_kind : (k : TriggerKind) → is_input k ≡ true → (k ≡ trigger.Input) ⊎ (k ≡ trigger.ReadInput)
 input_kind trigger.Input e = inl refl
 input_kind trigger.Timer e = absurd (let z : ◌≡◌ {A = ℕ} 0 1 = cc in omega arith)
 input_kind trigger.Action e = absurd (let z : ◌≡◌ {A = ℕ} 0 1 = cc in omega arith)

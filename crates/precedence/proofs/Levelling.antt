@@ -1,5 +1,5 @@
 -- Levels of reactions, from those of the graph of direct predecessors.
-use Rattle.std.proofs.Common.{◌≡◌, ℕ, zero, suc, ◌+◌, ◌<◌, ◌≤◌, Bool, true, false, cond, List, [], ◌∷◌, map, length, get_or, Err, vec_items, filter, sym, ap, ◌∙◌, subst, arith}
+use Rattle.std.proofs.Common.{◌≡◌, ℕ, zero, suc, ◌+◌, ◌<◌, ◌≤◌, Bool, true, false, cond, List, ◌∷◌, map, length, get_or, Err, vec_items, filter, sym, ap, ◌∙◌, subst, arith}
 use Rattle.std.specs.List.{range_with_len}
 use Rattle.std.proofs.lemmas.List.FromFn.{length-map-range_with_len, get_or-map-range_with_len, fill_by_all}
 use Rattle.levels.specs.Answering.{Levels}
@@ -15,10 +15,10 @@ use Rattle.levels.proofs.Ordering.{by_level_ordered}
 use Rattle.levels.proofs.Rounds.{all_below}
 use Rattle.network.specs.Tables.{Parts}
 use Rattle.network.specs.declared.parts.Reaction.{Reaction}
-use Rattle.precedence.specs.Answers.{Answers, Holds, Means, levels_of, order_of_lem}
+use Rattle.precedence.specs.Answers.{Answers, Holds, Means, levels_of}
 use Rattle.precedence.specs.Direct.{Directly}
 use Rattle.precedence.specs.Errors.{Possible, Tells}
-use Rattle.precedence.specs.Indexes.{Indexes, before, readings_held, targets_held, joinings_held}
+use Rattle.precedence.specs.Indexes.{Indexes, before}
 use Rattle.precedence.specs.Tests.{graph, precedes, predecessors, preceding}
 use Rattle.precedence.specs.declared.index.Index.{Index}
 use Rattle.precedence.specs.declared.precedence.Precedence.{Precedence}

@@ -16,22 +16,22 @@ abbrev pub levels_of : Parts → List ℕ
 levels_of p = map (longest (graph p) (length p.reactions)) (range_with_len 0 (length p.reactions))
 
 -- all reactions by level, and those of one level by number
-abbrev pub order_of_lem : Parts → List ℕ
-order_of_lem p = by_level (levels_of p)
+abbrev pub order_of : Parts → List ℕ
+order_of p = by_level (levels_of p)
 
 -- what is held of the precedence in a network that has no circle
 pub record Holds (p : Parts) (x : Precedence) : Type 0 where
   pub index : Indexes p x.index
   pub predecessors : map vec_items (vec_items x.predecessors) ≡ graph p
   pub levels : vec_items x.levels ≡ levels_of p
-  pub order : vec_items x.order ≡ order_of_lem p
+  pub order : vec_items x.order ≡ order_of p
   pub no_circle : Circle (Directly p) → ⊥
 
 -- and what that means
 pub record Means (p : Parts) : Type 0 where
   pub direct : (a b : ℕ) → (Edge (graph p) a b → Directly p a b) × (Directly p a b → Edge (graph p) a b)
   pub level : (x : ℕ) → x < length p.reactions → Level (Directly p) x (slice_index (levels_of p) x)
-  pub order : Ordered (levels_of p) (order_of_lem p)
+  pub order : Ordered (levels_of p) (order_of p)
 
 abbrev pub Answers : Parts → Result Precedence PrecedenceError → Type 0
 Answers p (Ok x) = Holds p x × Means p

@@ -1,5 +1,5 @@
 -- Which reactions directly precede which.
-use Rattle.std.specs.Prelude.{◌≡◌, ℕ, ◌<◌, ◌⊎◌, List, length, slice_index}
+use Rattle.std.specs.Prelude.{◌≡◌, ℕ, ◌<◌, ◌⊎◌, length, slice_index}
 use Rattle.levels.specs.Chains.{Has}
 use Rattle.lines.specs.declared.records.ConnectionKind.TheVariants.{Undelayed}
 use Rattle.lines.specs.declared.records.TriggerKind.TheVariants as trigger

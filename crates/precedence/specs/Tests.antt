@@ -29,15 +29,15 @@ without_delay Delayed = false
 abbrev pub undelayed : Connection → Bool
 undelayed c = without_delay c.kind
 
-abbrev pub is_input_lem : TriggerKind → Bool
-is_input_lem trigger.Input = true
-is_input_lem trigger.Timer = false
-is_input_lem trigger.Action = false
-is_input_lem trigger.ReadInput = true
+abbrev pub is_input : TriggerKind → Bool
+is_input trigger.Input = true
+is_input trigger.Timer = false
+is_input trigger.Action = false
+is_input trigger.ReadInput = true
 
 -- a trigger that is an input, or an input that is only read
 abbrev pub takes_input : Trigger → Bool
-takes_input t = is_input_lem t.kind
+takes_input t = is_input t.kind
 
 -- the triggers and readings of a reaction, its targets, and the connections to an input, each in the order of their lines
 abbrev pub readings_of : Parts → ℕ → List Trigger

@@ -2,7 +2,7 @@
 ghost use Rattle.std.specs.Prelude.{◌≡◌, ◌<◌, ◌&&◌, [], map, length, vec_items, slice_index_or};
 ghost use Rattle.rows.specs.Rows.{some};
 ghost use Rattle.precedence.specs.Indexes.{joinings_held, readings_held, targets_held};
-ghost use Rattle.precedence.specs.Tests.{earlier, fed, is_input_lem, preceding, reached, sets, takes_input, undelayed};
+ghost use Rattle.precedence.specs.Tests.{earlier, fed, is_input, preceding, reached, sets, takes_input, undelayed};
 
 use crate::index::Index;
 use lines::{ConnectionKind, TriggerKind};
@@ -49,7 +49,7 @@ pub(crate) struct ReachedFrom<'a> {
 }
 
 fn is_input(kind: TriggerKind) -> bool
-    ensures { result ≡ is_input_lem kind }
+    ensures { result ≡ is_input kind }
 {
     match kind {
         TriggerKind::Input => true,

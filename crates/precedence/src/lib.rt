@@ -1,4 +1,6 @@
 // Which reactions of a network precede which, and their levels.
+#![tactic(auto)]
+
 mod direct;
 mod index;
 mod indexing;

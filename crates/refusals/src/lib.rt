@@ -1,4 +1,6 @@
 // Why a call is refused, by number, for every layer.
+#![tactic(auto)]
+
 mod error;
 mod refusal;
 

@@ -12,7 +12,7 @@ pub fn grouped<T: Copy + Keyed>(
     rows: &[T],
     keys: usize,
 ) -> Result<Vec<Vec<T>>, AllocError>
-    ensures { IfOk result (λ v. map vec_items v.items ≡ by_key has keys rows.now) }
+    ensures { IfOk result (λ v. map vec_items v.items ≡ by_key T.has keys rows.now) }
 {
     let mut groups = Vec::new(heap);
     for key in 0..keys {

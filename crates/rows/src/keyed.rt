@@ -15,7 +15,7 @@ pub trait Keyed {
 pub struct WithKey(pub usize);
 
 impl<T: Keyed> Wanted<T> for WithKey {
-    ghost wants = { λ w t. (has t == w.0) };
+    ghost wants = { λ w t. (T.has t == w.0) };
 
     fn fits(&self, row: &T) -> bool {
         row.key() == self.0

@@ -1,4 +1,6 @@
 // Rows of tables: how many are wanted, which ones, and those of each key.
+#![tactic(auto)]
+
 mod groups;
 mod keyed;
 mod wanted;

@@ -12,7 +12,7 @@ pub trait Wanted<T> {
 }
 
 pub fn count_wanted<T, W: Wanted<T>>(rows: &[T], wanted: &W) -> usize
-    ensures { result ≡ count (wants wanted.now) rows.now }
+    ensures { result ≡ count (W.wants wanted.now) rows.now }
 {
     let mut n = 0;
     for row in rows {
@@ -24,7 +24,7 @@ pub fn count_wanted<T, W: Wanted<T>>(rows: &[T], wanted: &W) -> usize
 }
 
 pub fn some_wanted<T, W: Wanted<T>>(rows: &[T], wanted: &W) -> bool
-    ensures { result ≡ some (wants wanted.now) rows.now }
+    ensures { result ≡ some (W.wants wanted.now) rows.now }
 {
     for row in rows {
         if wanted.fits(row) {
@@ -40,7 +40,7 @@ pub(crate) fn wanted_rows<T: Copy, W: Wanted<T>>(
     rows: &[T],
     wanted: &W,
 ) -> Result<Vec<T>, AllocError>
-    ensures { IfOk result (λ v. v.items ≡ filter (wants wanted.now) rows.now) }
+    ensures { IfOk result (λ v. v.items ≡ filter (W.wants wanted.now) rows.now) }
 {
     let mut found = Vec::new(heap);
     for row in rows {

@@ -1,4 +1,6 @@
 // What a network declares in all, and the levels of its reactions, or a circle.
+#![tactic(auto)]
+
 mod show;
 mod survey;
 mod surveying;

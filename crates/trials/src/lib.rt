@@ -1,7 +1,9 @@
 // Many cases, with what the rules give for each.
+#![tactic(auto)]
+
 #[cfg(test)]
 mod assembly;
 #[cfg(test)]
-mod explanation;
+mod explained;
 #[cfg(test)]
-mod lines;
+mod read_lines;

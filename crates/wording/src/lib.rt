@@ -1,4 +1,6 @@
 // The words for what one line declares, or why it is refused.
+#![tactic(auto)]
+
 mod body;
 mod network;
 mod run;

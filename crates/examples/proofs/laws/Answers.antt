@@ -4,7 +4,7 @@ use Rattle.examples.proofs.laws.Goals as goal
 
 pub returns : goal.returns
 returns c = record {
-  worked-examples = record {
+  worked_examples = record {
     no_delay_leads_to_the_next_microstep = refl;
     a_delay_leads_to_microstep_0_of_a_later_time = refl;
     no_microstep_after_the_last = refl;

@@ -8,7 +8,7 @@ pub loop-line-smaller : goal.loop-line-smaller
 loop-line-smaller c = shorter _ _ _ c.in-Some.ensures
 
 pub loop-line-preserved : goal.loop-line-preserved
-loop-line-preserved c end more = c.loop-line.invariant end (next _ _ c.in-ok-tell.field-0 c.in-Some.ensures c.in-ok-tell.ensures more)
+loop-line-preserved c end more = c.loop-line.invariant end (next _ _ c.in_ok-tell.field-0 c.in-Some.ensures c.in_ok-tell.ensures more)
 
 pub returns : goal.returns
-returns c = record { start = c.new-draft.result; end = c.loop-line.draft; fresh = c.new-draft.ensures; lines = c.loop-line.invariant c.loop-line.draft (subst (λ (xs : List ℕ). Files c.loop-line.draft xs c.loop-line.draft) (sym (nil_from_length _ c.in-default.ensures)) done); left = c.into-assembly.ensures }
+returns c = record { start = c.new-draft.result; end = c.loop-line.draft; fresh = c.new-draft.ensures; lines = c.loop-line.invariant c.loop-line.draft (subst (λ (xs : List ℕ). Files c.loop-line.draft xs c.loop-line.draft) (sym (nil_from_length _ c.in_default.ensures)) done); left = c.into_assembly.ensures }

@@ -7,34 +7,34 @@ use Rattle.levels.proofs.level.longest_chains.Goals as goal
 use Rattle.std.proofs.lemmas.Bool.Decides.{Decides-eqb}
 
 pub loop-init : goal.loop-init
-loop-init c = (none_yet _ _ _ (c.in-ok-numbers.ensures.items-if-clones-equal (λ y e. e)), ap length (c.in-ok-next.ensures.items-if-clones-equal (λ y e. e)) ∙ length-replicate (length c.args.graph.now) 0)
+loop-init c = (none_yet _ _ _ (c.in_ok-numbers.ensures.items_if_clones_equal (λ y e. e)), ap length (c.in_ok-next.ensures.items_if_clones_equal (λ y e. e)) ∙ length-replicate (length c.args.graph.now) 0)
 
-pub next-round-requires : goal.next-round-requires
-next-round-requires c =
+pub next_round-requires : goal.next_round-requires
+next_round-requires c =
     record {
-      size = ap length c.as-slice.ensures.value ∙ c.loop.invariant.0.size;
-      room = ap length c.as-mut-slice.ensures.value ∙ c.loop.invariant.1;
+      size = ap length c.as_slice.ensures.value ∙ c.loop.invariant.0.size;
+      room = ap length c.as_mut_slice.ensures.value ∙ c.loop.invariant.1;
       edges = c.requires.edges;
-      small = subst (λ (xs : List ℕ). AllBelow (length xs) xs) (sym c.as-slice.ensures.value) (small_enough _ _ c.loop.counter _ _ c.loop.invariant.0 (let size = c.loop.invariant.0.size in omega arith));
+      small = subst (λ (xs : List ℕ). AllBelow (length xs) xs) (sym c.as_slice.ensures.value) (small_enough _ _ c.loop.counter _ _ c.loop.invariant.0 (let size = c.loop.invariant.0.size in omega arith));
     }
 
 pub loop-preserved : goal.loop-preserved
 loop-preserved c =
-    let long : length c.next-round.new.after ≡ length c.args.graph.now = c.next-round.auto.after ∙ ap length c.as-mut-slice.ensures.value ∙ c.loop.invariant.1 in
-    let now-is : vec_items c.swap.new.x ≡ c.next-round.new.after = ap vec_items c.swap.ensures.x-after ∙ with_items_is c.loop.next c.next-round.new.after (c.next-round.auto.after ∙ c.as-mut-slice.ensures.len) in (
+    let long : length c.next_round.new.after ≡ length c.args.graph.now = c.next_round.auto.after ∙ ap length c.as_mut_slice.ensures.value ∙ c.loop.invariant.1 in
+    let now-is : vec_items c.swap.new.x ≡ c.next_round.new.after = ap vec_items c.swap.ensures.x_after ∙ with_items_is c.loop.next c.next_round.new.after (c.next_round.auto.after ∙ c.as_mut_slice.ensures.len) in (
       subst (Longest (map vec_items c.args.graph.now) (length c.args.graph.now) (c.loop.counter + 1)) (sym now-is)
-          (next_longest (map vec_items c.args.graph.now) (length c.args.graph.now) c.loop.counter c.as-slice.result.now (vec_items c.loop.numbers) c.next-round.new.after c.as-slice.ensures.value c.requires.edges c.loop.invariant.0 long c.next-round.ensures),
-      ap (λ v. length (vec_items v)) c.swap.ensures.y-after ∙ c.loop.invariant.0.size,
+          (next_longest (map vec_items c.args.graph.now) (length c.args.graph.now) c.loop.counter c.as_slice.result.now (vec_items c.loop.numbers) c.next_round.new.after c.as_slice.ensures.value c.requires.edges c.loop.invariant.0 long c.next_round.ensures),
+      ap (λ v. length (vec_items v)) c.swap.ensures.y_after ∙ c.loop.invariant.0.size,
     )
 
 pub returns-then-eq : goal.returns-then-eq
 returns-then-eq c =
-    let long : length c.next-round.new.after ≡ length c.args.graph.now = c.next-round.auto.after ∙ ap length c.as-mut-slice.ensures.value ∙ c.loop.invariant.1 in
-    let now-is : c.as-slice-in-loop.result.now ≡ c.next-round.new.after = c.as-slice-in-loop.ensures.value ∙ with_items_is c.loop.next c.next-round.new.after (c.next-round.auto.after ∙ c.as-mut-slice.ensures.len) in
-    let same = (slice_eq-Decides Decides-eqb c.as-slice-in-loop.result.now c.as-slice-in-loop-2.result.now c.eq.result c.eq.ensures).0 c.if-eq.true in
-    longest_settled (map vec_items c.args.graph.now) (length c.args.graph.now) c.loop.counter (length c.args.graph.now) (vec_items c.loop.numbers) c.next-round.new.after c.requires.edges c.loop.invariant.0
-    (next_longest (map vec_items c.args.graph.now) (length c.args.graph.now) c.loop.counter c.as-slice.result.now (vec_items c.loop.numbers) c.next-round.new.after c.as-slice.ensures.value c.requires.edges c.loop.invariant.0 long c.next-round.ensures)
-    (sym now-is ∙ same ∙ c.as-slice-in-loop-2.ensures.value)
+    let long : length c.next_round.new.after ≡ length c.args.graph.now = c.next_round.auto.after ∙ ap length c.as_mut_slice.ensures.value ∙ c.loop.invariant.1 in
+    let now-is : c.as_slice-in-loop.result.now ≡ c.next_round.new.after = c.as_slice-in-loop.ensures.value ∙ with_items_is c.loop.next c.next_round.new.after (c.next_round.auto.after ∙ c.as_mut_slice.ensures.len) in
+    let same = (slice_eq-Decides Decides-eqb c.as_slice-in-loop.result.now c.as_slice-in-loop-2.result.now c.eq.result c.eq.ensures).0 c.if-eq.true in
+    longest_settled (map vec_items c.args.graph.now) (length c.args.graph.now) c.loop.counter (length c.args.graph.now) (vec_items c.loop.numbers) c.next_round.new.after c.requires.edges c.loop.invariant.0
+    (next_longest (map vec_items c.args.graph.now) (length c.args.graph.now) c.loop.counter c.as_slice.result.now (vec_items c.loop.numbers) c.next_round.new.after c.as_slice.ensures.value c.requires.edges c.loop.invariant.0 long c.next_round.ensures)
+    (sym now-is ∙ same ∙ c.as_slice-in-loop-2.ensures.value)
     c.loop.auto.counter-end
 
 pub returns : goal.returns

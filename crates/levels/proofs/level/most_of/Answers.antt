@@ -5,8 +5,8 @@ use Rattle.levels.specs.Rounds.{reads}
 use Rattle.levels.proofs.Rounds.{most_more, below_at}
 use Rattle.levels.proofs.level.most_of.Goals as goal
 
-pub offset-bounds-numbers-node : goal.offset-bounds-numbers-node
-offset-bounds-numbers-node c = let lt = below_at _ c.args.nodes.now c.loop-node.node-index c.requires.within c.loop-node-test.true in let good = c.well-formed in omega arith
+pub offset_bounds-numbers-node : goal.offset_bounds-numbers-node
+offset_bounds-numbers-node c = let lt = below_at _ c.args.nodes.now c.loop-node.node-index c.requires.within c.loop-node-test.true in let good = c.well_formed in omega arith
 
 pub bounds-numbers-node : goal.bounds-numbers-node
 bounds-numbers-node c = below_at _ c.args.nodes.now c.loop-node.node-index c.requires.within c.loop-node-test.true
@@ -18,7 +18,7 @@ pub longer-best-requires : goal.longer-best-requires
 longer-best-requires c =
     let lt = below_at _ c.args.nodes.now c.loop-node.node-index c.requires.within c.loop-node-test.true in
     let small = below_at _ c.args.numbers.now (get_or c.args.nodes.now c.loop-node.node-index 0) c.requires.small lt in
-    let good = c.well-formed in
+    let good = c.well_formed in
     omega arith
 
 pub loop-node-preserved : goal.loop-node-preserved

@@ -4,14 +4,14 @@ use Rattle.lines.proofs.Digits.{stops_at, stops_past}
 use Rattle.lines.proofs.number.digits_in_front.Goals as goal
 
 pub loop-n-preserved : goal.loop-n-preserved
-loop-n-preserved c = (omega arith, digits_more 10 c.args.text.now c.loop-n.n c.loop-n-test.true c.loop-n.invariant.1 c.if-is-ascii-digit.ensures.bound)
+loop-n-preserved c = (omega arith, digits_more 10 c.args.text.now c.loop-n.n c.loop-n-test.true c.loop-n.invariant.1 c.if-is_ascii_digit.ensures.bound)
 
-pub returns-else-is-ascii-digit : goal.returns-else-is-ascii-digit
-returns-else-is-ascii-digit c =
+pub returns-else-is_ascii_digit : goal.returns-else-is_ascii_digit
+returns-else-is_ascii_digit c =
     record {
       within = c.loop-n.invariant.0;
       digits = c.loop-n.invariant.1;
-      stops = stops_at c.args.text.now c.loop-n.n c.if-is-ascii-digit.ensures.cases;
+      stops = stops_at c.args.text.now c.loop-n.n c.if-is_ascii_digit.ensures.cases;
     }
 
 pub returns-after-loop-n : goal.returns-after-loop-n

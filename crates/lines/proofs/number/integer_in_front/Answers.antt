@@ -3,13 +3,13 @@ use Rattle.lines.specs.Steps.{NaturalAt}
 use Rattle.lines.proofs.Digits.{minus_none, minus_zero, minus_some, front}
 use Rattle.lines.proofs.number.integer_in_front.Goals as goal
 
-pub returns-in-err-value : goal.returns-in-err-value
-returns-in-err-value c = rw c.from-residual.ensures (minus_none c.args.text.now _ (front _ 45 (search rules) (search rules)) c.in-err-value.ensures)
+pub returns-in_err-value-in-45 : goal.returns-in_err-value-in-45
+returns-in_err-value-in-45 c = rw c.from_residual.ensures (minus_none c.args.text.now _ (front _ 45 (search rules) (search rules)) c.in_err-value-in-45.ensures)
 
 pub returns-then-value-eq0 : goal.returns-then-value-eq0
 returns-then-value-eq0 c =
-    minus_zero c.args.text.now _ (front _ 45 (search rules) (search rules)) c.in-ok-value.field-0.len
-    (subst (λ (n : ℕ). NaturalAt (take (length c.args.text.now - 1) (drop 1 c.args.text.now)) n c.in-ok-value.field-0.len) c.if-value-eq0.true c.in-ok-value.ensures)
+    minus_zero c.args.text.now _ (front _ 45 (search rules) (search rules)) c.in_ok-value-in-45.field-0.len
+    (subst (λ (n : ℕ). NaturalAt (take (length c.args.text.now - 1) (drop 1 c.args.text.now)) n c.in_ok-value-in-45.field-0.len) c.if-value-eq0.true c.in_ok-value-in-45.ensures)
 
 pub returns-else-value-eq0 : goal.returns-else-value-eq0
-returns-else-value-eq0 c = minus_some c.args.text.now _ (front _ 45 (search rules) (search rules)) _ _ c.in-ok-value.ensures c.if-value-eq0.false
+returns-else-value-eq0 c = minus_some c.args.text.now _ (front _ 45 (search rules) (search rules)) _ _ c.in_ok-value-in-45.ensures c.if-value-eq0.false

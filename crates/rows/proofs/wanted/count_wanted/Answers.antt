@@ -5,8 +5,8 @@ use Rattle.rows.proofs.Counts.{count_le, again}
 use Rattle.rows.proofs.wanted.count_wanted.Goals as goal
 use Rattle.rows.proofs.wanted.count_wanted.Goals.{then-fits, else-fits}
 
-pub overflow-add-n : goal.overflow-add-n
-overflow-add-n g c =
+pub overflow_add-n : goal.overflow_add-n
+overflow_add-n g c =
     let some = count_le (g.W.Wanted.wants c.args.wanted.now) (take c.loop-row.row-index c.args.rows.now) in
     let long = length-take-le c.loop-row.row-index c.args.rows.now (omega arith) in
     let so = c.loop-row.invariant in

@@ -1,7 +1,7 @@
 use Rattle.precedence.proofs.Levelling.{means}
 use Rattle.frozen.specs.Freezing.{declared_by}
 use Rattle.frozen.proofs.Known.{known}
-use Rattle.frozen.proofs.network.Network.known.Goals as goal
+use Rattle.frozen.proofs.frozen.Network.known.Goals as goal
 
 pub returns : goal.returns
 returns c =

@@ -226,12 +226,14 @@ fn fields_and_their_places(rt: HostRuntime) -> Result<(), Fail> {
     else {
         return Err(Fail::new("no row"));
     };
-    assert!(rt; state.text == b"-12" && state.place == 3 && state.value == -12);
+    assert!(rt; state.text == b"-12".as_slice() && state.place == 3 && state.value == -12);
     assert!(rt;
-        class.text == b"1" && class.place == 7 && matches!(class.value, ReadingClass::AtMostZero)
+        class.text == b"1".as_slice()
+            && class.place == 7
+            && matches!(class.value, ReadingClass::AtMostZero)
     );
-    assert!(rt; next.text == b"345" && next.place == 9 && next.value == 345);
-    assert!(rt; target.text == b"0" && target.place == 13 && target.value == 0);
-    assert!(rt; value.text == b"-6" && value.place == 15 && value.value == -6);
+    assert!(rt; next.text == b"345".as_slice() && next.place == 9 && next.value == 345);
+    assert!(rt; target.text == b"0".as_slice() && target.place == 13 && target.value == 0);
+    assert!(rt; value.text == b"-6".as_slice() && value.place == 15 && value.value == -6);
     Ok(())
 }

@@ -1,5 +1,7 @@
 use explanation::Explanation;
+use std::alloc::Global;
 use std::fmt::Write;
+use std::process::Abort;
 use std::test::*;
 
 const UNKNOWN: &str = "refused 1: no mark that may come here";
@@ -9,28 +11,34 @@ const MALFORMED: &str = "refused 2: malformed, or an instruction or row before i
 const OUT_OF_RANGE: &str = "refused 3: a field is outside its range";
 
 // The input is explained by these lines, each after its number.
-fn explains(rt: HostRuntime, input: &[u8], lines: &[&str]) -> Result<(), Fail> {
-    let mut expected = String::new(rt.alloc());
+fn explains(rt: &impl Abort, alloc: Global, input: &[u8], lines: &[&str]) -> Result<(), Fail> {
+    let mut expected = String::new(alloc);
     for (i, line) in lines.iter().enumerate() {
         writeln!(expected, "{}: {line}", i + 1)?;
     }
     let explanation = Explanation { input };
-    let text = format!(in rt.alloc(); "{explanation}")?;
-    assert_eq!(text.as_str(), expected.as_str());
+    let text = format!(in alloc; "{explanation}")?;
+    assert_eq!(rt; text.as_str(), expected.as_str());
     Ok(())
 }
 
 #[test]
 fn short_lines(rt: HostRuntime) -> Result<(), Fail> {
-    explains(rt, b"", &[])?;
-    explains(rt, b"\nR\nRE", &[UNKNOWN, UNKNOWN, MALFORMED])?;
-    explains(rt, b"RE\n\nR", &["reactor 0", UNKNOWN, UNKNOWN])
+    explains(&rt, rt.alloc(), b"", &[])?;
+    explains(&rt, rt.alloc(), b"\nR\nRE", &[UNKNOWN, UNKNOWN, MALFORMED])?;
+    explains(
+        &rt,
+        rt.alloc(),
+        b"RE\n\nR",
+        &["reactor 0", UNKNOWN, UNKNOWN],
+    )
 }
 
 #[test]
 fn spaces(rt: HostRuntime) -> Result<(), Fail> {
     explains(
-        rt,
+        &rt,
+        rt.alloc(),
         b"IP  0\nIP 0 \n IP 0\nIP 0\nRE \n",
         &[
             MALFORMED,
@@ -45,7 +53,8 @@ fn spaces(rt: HostRuntime) -> Result<(), Fail> {
 #[test]
 fn number_texts(rt: HostRuntime) -> Result<(), Fail> {
     explains(
-        rt,
+        &rt,
+        rt.alloc(),
         b"IP 00\nIP -1\nIP 12345678901234567890\nIP 9999999999999999999\nEN 1000000000000000001\n",
         &[
             MALFORMED,
@@ -56,7 +65,8 @@ fn number_texts(rt: HostRuntime) -> Result<(), Fail> {
         ],
     )?;
     explains(
-        rt,
+        &rt,
+        rt.alloc(),
         b"BO\nIS 1 0 0 -0\nIS 1 0 0 -2147483648\nIS 1 0 0 2147483648\n",
         &[
             "bytecode body 0",
@@ -70,7 +80,8 @@ fn number_texts(rt: HostRuntime) -> Result<(), Fail> {
 #[test]
 fn other_bytes(rt: HostRuntime) -> Result<(), Fail> {
     explains(
-        rt,
+        &rt,
+        rt.alloc(),
         b"RE\0\nIP 0\0\n\0\nRE\r\nIP 1\r\nRE\n",
         &[
             MALFORMED,
@@ -86,7 +97,7 @@ fn other_bytes(rt: HostRuntime) -> Result<(), Fail> {
 #[test]
 fn longest_input(rt: HostRuntime) -> Result<(), Fail> {
     let mut input = vec![in rt.alloc(); b'x'; 65_536]?;
-    explains(rt, input.as_slice(), &[UNKNOWN])?;
+    explains(&rt, rt.alloc(), input.as_slice(), &[UNKNOWN])?;
     input.push(b'\n')?;
     let explanation = Explanation {
         input: input.as_slice(),
@@ -99,7 +110,8 @@ fn longest_input(rt: HostRuntime) -> Result<(), Fail> {
 #[test]
 fn orphans(rt: HostRuntime) -> Result<(), Fail> {
     explains(
-        rt,
+        &rt,
+        rt.alloc(),
         b"IS 0 0 0 0\nIS 99 0 0 0\nBO\nIS 99 0 0 0\nIS 0 0 0 0\n",
         &[
             MALFORMED,
@@ -110,7 +122,8 @@ fn orphans(rt: HostRuntime) -> Result<(), Fail> {
         ],
     )?;
     explains(
-        rt,
+        &rt,
+        rt.alloc(),
         b"BO\nRW 0 0 0 0 0\nRW 0 3 0 0 0\nBT\nRW 0 3 0 0 0\n",
         &[
             "bytecode body 0",
@@ -125,7 +138,8 @@ fn orphans(rt: HostRuntime) -> Result<(), Fail> {
 #[test]
 fn bodies_begin_anew(rt: HostRuntime) -> Result<(), Fail> {
     explains(
-        rt,
+        &rt,
+        rt.alloc(),
         b"BO\nIS 3 1 2 0\nBT\nIS 6 1 0 32\nBO\nIS 0 0 0 0\n",
         &[
             "bytecode body 0",
@@ -141,7 +155,8 @@ fn bodies_begin_anew(rt: HostRuntime) -> Result<(), Fail> {
 #[test]
 fn run_after_start(rt: HostRuntime) -> Result<(), Fail> {
     explains(
-        rt,
+        &rt,
+        rt.alloc(),
         b"OF 0 5 7\nGO 4 1\nGO 4 1 1\nRE\nIS 0 0 0 0\nOF 0 5 7\nAD 15 10\nGO 4 0 0\n",
         &[
             UNKNOWN,
