@@ -1,72 +1,50 @@
 -- What is said of the next line of a file, with a network beside it.
-use Rattle.std.specs.Prelude.{◌≡◌, ℕ, Bool, true, false, List, [], replicate, Ok, Err, Result}
+use Rattle.std.specs.Prelude.{◌≡◌, ◌≢◌, ℕ, List, [], Ok, Err, Result}
 use Rattle.std.specs.declared.alloc.AllocError.{AllocError}
 use Rattle.input.specs.Split.{FirstLine}
+use Rattle.lines.specs.Records.{mark_of}
+use Rattle.lines.specs.Sections.{home}
 use Rattle.lines.specs.declared.records.Record.{Record}
-use Rattle.lines.specs.declared.records.Record.TheVariants.{Reactor, Input, Output, Timer, Action, Connection, Reaction, Trigger, Write, Schedule, Stop, Bytecode, Instruction, Table, Row, Start, Offer, Advance}
-use Rattle.lines.specs.declared.section.Section.TheVariants.{Setup}
+use Rattle.lines.specs.declared.section.Section.TheVariants.{Setup, Network}
 use Rattle.network.specs.Assembling.{Takes}
-use Rattle.network.specs.Meaning.{parts_of}
 use Rattle.network.specs.Tables.{no_parts}
 use Rattle.network.specs.declared.assembly.Assembly.{Assembly}
-use Rattle.outline.specs.Counting.{counters}
+use Rattle.outline.specs.Counting.{no_counts}
 use Rattle.outline.specs.Telling.{Tells}
+use Rattle.outline.specs.declared.declared.Declared.{Declared}
 use Rattle.outline.specs.declared.progress.Progress.{Progress}
-use Rattle.outline.specs.declared.told.Told.{Told}
-use Rattle.outline.specs.declared.told.Told.TheVariants as told
 use Rattle.refusals.specs.declared.error.BuildError.{BuildError}
-use Rattle.refusals.specs.declared.error.BuildError.TheVariants as build
+use Rattle.refusals.specs.declared.error.BuildError.TheVariants.{Refused, NoMemory}
 use Rattle.refusals.specs.declared.refusal.Refusal.{Refusal}
 use Rattle.draft.specs.declared.draft.Draft.{Draft}
 
--- the lines of bodies and of a run are not the network's
-abbrev pub of_network : Record → Bool
-of_network Reactor = true
-of_network (Input r) = true
-of_network (Output r) = true
-of_network (Timer r o p) = true
-of_network (Action r k d) = true
-of_network (Connection o i k d) = true
-of_network (Reaction r b) = true
-of_network (Trigger x k n) = true
-of_network (Write x n) = true
-of_network (Schedule x n) = true
-of_network (Stop t) = true
-of_network Bytecode = false
-of_network (Instruction p a b k) = false
-of_network Table = false
-of_network (Row s c n j v) = false
-of_network (Start c p q) = false
-of_network (Offer a t v) = false
-of_network (Advance u n) = false
-
-abbrev pub is_networks : Told → Bool
-is_networks (told.Declared r before) = of_network r
-is_networks (told.Refused e) = false
-
--- what is told of a line that a network does not take
-abbrev pub Because : BuildError → Result Told AllocError → Type 0
-Because (build.Refused e) r = r ≡ Ok (told.Refused e)
-Because build.NoMemory (Ok t) = ⊥
-Because build.NoMemory (Err e) = Unit {0}
+-- a record of the network, and not of a body or of a run
+abbrev pub IsNetworks : Record → Type 0
+IsNetworks r = home (mark_of r) ≡ Network
 
 -- a line is told as it stands; one of the network is also taken into it, and where that refuses it, it is refused and nothing changes
-pub data Drafts (from : Draft) (line : List ℕ) (to : Draft) : Result Told AllocError → Type 0 where
-  elsewhere : (t : Told) → Tells from.progress line to.progress t → is_networks t ≡ false → parts_of to.assembly ≡ parts_of from.assembly → Drafts from line to (Ok t)
-  accepted : (t : Told) → Tells from.progress line to.progress t → is_networks t ≡ true → Takes (parts_of from.assembly) line (Ok tt) (parts_of to.assembly) → Drafts from line to (Ok t)
-  refused : (t : Told) (after : Progress) (e : Refusal) → Tells from.progress line after t → is_networks t ≡ true → Takes (parts_of from.assembly) line (Err (build.Refused e)) (parts_of to.assembly) → to.progress ≡ from.progress → Drafts from line to (Ok (told.Refused e))
-  no_memory : (t : Told) (after : Progress) (e : AllocError) → Tells from.progress line after t → is_networks t ≡ true → Takes (parts_of from.assembly) line (Err build.NoMemory) (parts_of to.assembly) → to.progress ≡ from.progress → Drafts from line to (Err e)
+pub data Drafts (from : Draft) (line : List ℕ) (to : Draft) : Result Declared BuildError → Type 0 where
+  elsewhere : (d : Declared) → Tells from.progress line to.progress (Ok d) → (IsNetworks d.record → ⊥) → to.assembly ≡ from.assembly → Drafts from line to (Ok d)
+  accepted : (d : Declared) → Tells from.progress line to.progress (Ok d) → IsNetworks d.record → Takes from.assembly line (Ok tt) to.assembly → Drafts from line to (Ok d)
+  unread : (e : Refusal) → Tells from.progress line to.progress (Err e) → to.assembly ≡ from.assembly → Drafts from line to (Err (Refused e))
+  not_taken : (d : Declared) (after : Progress) (e : BuildError) → Tells from.progress line after (Ok d) → IsNetworks d.record → Takes from.assembly line (Err e) to.assembly → to.progress ≡ from.progress → Drafts from line to (Err e)
 
 -- nothing was told yet
 pub record Fresh (d : Draft) : Type 0 where
   pub section : d.progress.section ≡ Setup
-  pub counts : counters d.progress.counts ≡ replicate 11 0
-  pub parts : parts_of d.assembly ≡ no_parts
+  pub counts : d.progress.counts ≡ no_counts
+  pub parts : d.assembly ≡ no_parts
+
+-- a line is told, whether or not it is refused
+pub record Passes (from : Draft) (line : List ℕ) (to : Draft) : Type 0 where
+  pub told : Result Declared BuildError
+  pub drafts : Drafts from line to told
+  pub memory_found : (e : AllocError) → told ≢ Err (NoMemory e)
 
 -- the lines of an input, told one after the other
 pub data Files : Draft → List ℕ → Draft → Type 0 where
   done : {d : Draft} → Files d [] d
-  next : {d e f : Draft} {input : List ℕ} (line rest : List ℕ) (t : Told) → FirstLine input line rest → Drafts d line e (Ok t) → Files e rest f → Files d input f
+  next : {from to end : Draft} {input : List ℕ} (line rest : List ℕ) → FirstLine input line rest → Passes from line to → Files to rest end → Files from input end
 
 -- what a whole input leads to
 pub record Assembles (input : List ℕ) (a : Assembly) : Type 0 where

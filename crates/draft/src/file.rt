@@ -3,7 +3,7 @@ ghost use Rattle.std.specs.Prelude.{IfOk};
 ghost use Rattle.draft.specs.Drafting.{Assembles};
 
 use crate::draft::Draft;
-use input::first_line;
+use input::Lines;
 use network::Assembly;
 use std::alloc::{AllocError, Global};
 
@@ -12,10 +12,8 @@ pub fn assembled(heap: Global, input: &[u8]) -> Result<Assembly, AllocError>
     ensures { IfOk result (Assembles input.now) }
 {
     let mut draft = Draft::new(heap);
-    let mut rest = input;
-    while let Some((line, after)) = first_line(rest) {
-        let _ = draft.tell(line)?;
-        rest = after;
+    for line in Lines::of(input) {
+        draft.pass(line)?;
     }
     Ok(draft.into_assembly())
 }

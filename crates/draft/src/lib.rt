@@ -3,7 +3,6 @@
 
 mod draft;
 mod file;
-mod telling;
 
 pub use draft::Draft;
 pub use file::assembled;

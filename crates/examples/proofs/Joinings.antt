@@ -1,15 +1,13 @@
 -- What a reactor that is joined with itself declares, and when it is a circle.
-use Rattle.std.proofs.Common.{◌≡◌, ℕ, suc, ◌^◌, ◌≤◌, List, [], ◌∷◌, pos, ◌≤ℤ◌, Some, None, codes, refl, ap, inl, inr, arith}
+use Rattle.std.proofs.Common.{◌≡◌, ℕ, suc, List, [], ◌∷◌, pos, Some, None, codes, Contains, refl, ap, inl, ⊎_elim, arith, rules}
 use Rattle.std.specs.Fmt.{digits, signed_decimal}
 use Rattle.std.proofs.lemmas.Int.{ints}
 use Rattle.frozen.specs.Freezing.{Circular}
-use Rattle.levels.specs.Chains.{Has, Chain, stay, step}
-use Rattle.lines.specs.Fields.{Each, Written, Within, Agree, schema}
-use Rattle.lines.specs.Numbers.{Short}
-use Rattle.lines.specs.Reading.{Says, Ranged, reads, numbers_of}
-use Rattle.lines.specs.Records.{mark_of, fields_of, connection_code}
+use Rattle.levels.specs.Chains.{Chain, stay, step}
+use Rattle.levels.proofs.Members.{contains_cons, contains_none}
+use Rattle.lines.specs.Reading.{Tells, reads}
+use Rattle.lines.specs.Records.{mark_of}
 use Rattle.lines.specs.Sections.{MayCome}
-use Rattle.lines.specs.Texts.{entries, text}
 use Rattle.lines.specs.declared.records.ConnectionKind.{ConnectionKind}
 use Rattle.lines.specs.declared.records.ConnectionKind.TheVariants.{Undelayed, Delayed}
 use Rattle.lines.specs.declared.records.Field.{Field}
@@ -34,55 +32,40 @@ field at number value = record { text = record { ref_ptr = (0, 0); now = signed_
 abbrev count : ℕ → ℕ → Field ℕ
 count at number = field at number number
 
-short_0 : Short 0
-short_0 = omega arith
-
-short_1 : Short 1
-short_1 = omega arith
-
-from_0 : (n : ℕ) → pos 0 ≤ℤ pos n
-from_0 n = omega (arith, ints)
-
-up_to : (n m : ℕ) → n ≤ m → (pos 0 ≤ℤ pos n) × (pos n ≤ℤ pos m)
-up_to n m h = (omega (arith, ints), omega (arith, ints))
-
--- a line that is the text of a record declares what the record declares, where its numbers lie in their ranges
-declaring : {line : List ℕ} {d : Declaration} (r : Record) → MayCome section.Network (mark_of r) → line ≡ text (mark_of r) (numbers_of r) → fields_of r ≡ entries 2 (numbers_of r) → declares r ≡ Some d → Each Written (schema (mark_of r)) (numbers_of r) → Each Within (schema (mark_of r)) (numbers_of r) → Agree (mark_of r) (numbers_of r) → Declares line d
-declaring r may whole fields meant written each agree =
-    let says : Says _ _ _ = record { whole = whole; written = written } in
-    let ranged : Ranged _ _ = record { each = each; agree = agree } in
-    record { said = r; read = reads r may (record { says = says; ranged = ranged; fields = fields }); meant = meant }
+-- a line that tells a record of a network declares what the record declares
+declaring : {line : List ℕ} {d : Declaration} (r : Record) → MayCome section.Network (mark_of r) → declares r ≡ Some d → Tells line r → Declares line d
+declaring r may meant tells = record { said = r; read = reads r may tells; meant = meant }
 
 reactor : Declares (codes "RE\n") declaration.Reactor
-reactor = declaring said.Reactor refl refl refl refl tt tt tt
+reactor = declaring said.Reactor refl refl (search (arith, ints, rules))
 
 input : Declares (codes "IP 0\n") (declaration.Input 0)
 unfolding digits
-input = declaring (said.Input (count 3 0)) refl refl refl refl (short_0, tt) (from_0 0, tt) tt
+input = declaring (said.Input (count 3 0)) refl refl (search (arith, ints, rules))
 
 output : Declares (codes "OP 0\n") (declaration.Output 0)
 unfolding digits
-output = declaring (said.Output (count 3 0)) refl refl refl refl (short_0, tt) (from_0 0, tt) tt
+output = declaring (said.Output (count 3 0)) refl refl (search (arith, ints, rules))
 
 undelayed : Declares (codes "CN 0 0 0 0\n") (declaration.Connection (record { output = 0; input = 0; kind = Undelayed; delay = 0 }))
 unfolding digits
-undelayed = declaring (said.Connection (count 3 0) (count 5 0) (field 7 0 Undelayed) (count 9 0)) refl refl refl refl (short_0, (short_0, (short_0, (short_0, tt)))) (from_0 0, (from_0 0, (up_to 0 1 (omega arith), (up_to 0 (10 ^ 18) (omega arith), tt)))) (λ h. refl)
+undelayed = declaring (said.Connection (count 3 0) (count 5 0) (field 7 0 Undelayed) (count 9 0)) refl refl (search (arith, ints, rules))
 
 delayed : Declares (codes "CN 0 0 1 0\n") (declaration.Connection (record { output = 0; input = 0; kind = Delayed; delay = 0 }))
 unfolding digits
-delayed = declaring (said.Connection (count 3 0) (count 5 0) (field 7 1 Delayed) (count 9 0)) refl refl refl refl (short_0, (short_0, (short_1, (short_0, tt)))) (from_0 0, (from_0 0, (up_to 1 1 (omega arith), (up_to 0 (10 ^ 18) (omega arith), tt)))) (λ h. refl)
+delayed = declaring (said.Connection (count 3 0) (count 5 0) (field 7 1 Delayed) (count 9 0)) refl refl (search (arith, ints, rules))
 
 reaction : Declares (codes "RX 0 0\n") (declaration.Reaction (record { reactor = 0; body = 0 }))
 unfolding digits
-reaction = declaring (said.Reaction (count 3 0) (count 5 0)) refl refl refl refl (short_0, (short_0, tt)) (from_0 0, (up_to 0 255 (omega arith), tt)) tt
+reaction = declaring (said.Reaction (count 3 0) (count 5 0)) refl refl (search (arith, ints, rules))
 
 triggered : Declares (codes "TR 0 0 0\n") (declaration.Trigger (record { reaction = 0; kind = trigger.Input; source = 0 }))
 unfolding digits
-triggered = declaring (said.Trigger (count 3 0) (field 5 0 trigger.Input) (count 7 0)) refl refl refl refl (short_0, (short_0, (short_0, tt))) (from_0 0, (up_to 0 3 (omega arith), (from_0 0, tt))) tt
+triggered = declaring (said.Trigger (count 3 0) (field 5 0 trigger.Input) (count 7 0)) refl refl (search (arith, ints, rules))
 
 writes : Declares (codes "WR 0 0\n") (declaration.Target (record { reaction = 0; kind = target.Output; number = 0 }))
 unfolding digits
-writes = declaring (said.Write (count 3 0) (count 5 0)) refl refl refl refl (short_0, (short_0, tt)) (from_0 0, (from_0 0, tt)) tt
+writes = declaring (said.Write (count 3 0) (count 5 0)) refl refl (search (arith, ints, rules))
 
 -- what the lines declare, where the connection is of this kind
 abbrev joining : ConnectionKind → Parts
@@ -103,11 +86,14 @@ assembled : (kind : ConnectionKind) (line : List ℕ) → Declares line (declara
 assembled kind line connection = more _ _ reactor refl (more _ _ input refl (more _ _ output refl (more _ _ connection refl (more _ _ reaction refl (more _ _ triggered refl (more _ _ writes refl none))))))
 
 circle : Circular (joining Undelayed)
-circle = record { node = 0; edges = 0; chain = step stay (joined 0 0 (omega arith) (omega arith) (omega arith) (inl refl) (record { delay = 0; joins = inl refl }) (inl (inl refl))) }
+circle = record { node = 0; edges = 0; chain = step stay (joined 0 0 (omega arith) (omega arith) (omega arith) (0, omega arith, refl) (record { delay = 0; joins = (0, omega arith, refl) }) (inl (0, omega arith, refl))) }
 
-none_undelayed : (o i d : ℕ) → Has {A = Connection} (record { output = o; input = i; kind = Undelayed; delay = d }) (joining Delayed).connections → ⊥
-none_undelayed o i d (inl e) = let z : ◌≡◌ {A = ℕ} 0 1 = ap (λ c. connection_code c.kind) e in omega arith
-none_undelayed o i d (inr e) = e
+none_undelayed : (o i d : ℕ) → Contains {X = Connection} (joining Delayed).connections (record { output = o; input = i; kind = Undelayed; delay = d }) → ⊥
+none_undelayed o i d h =
+    ⊎_elim
+    (λ (e : record { output = 0; input = 0; kind = Delayed; delay = 0 } ≡ record { output = o; input = i; kind = Undelayed; delay = d }). let same : Delayed ≡ Undelayed = ap (λ c. c.kind) e in cc)
+    (contains_none _)
+    (contains_cons _ [] _ h)
 
 no_edge : (a b : ℕ) → Directly (joining Delayed) a b → ⊥
 no_edge a b (same_reactor before within same) = omega arith

@@ -1,6 +1,7 @@
 // The whole text, a line for each line of the input.
-use input::first_line;
-use outline::Progress;
+use input::Lines;
+use outline::{Declared, Progress};
+use refusals::Refusal;
 use std::fmt;
 use wording::Said;
 
@@ -8,26 +9,31 @@ use wording::Said;
 pub const MOST_BYTES: usize = 65_536;
 
 // What an input declares, shown line by line.
-#[derive(Clone, Copy)]
+#[derive(Clone, Copy, Debug)]
 pub struct Explanation<'a> {
     pub input: &'a [u8],
 }
 
 impl fmt::Display for Explanation<'_> {
     fn fmt<W: fmt::Write>(&self, f: &mut fmt::Formatter<W>) -> fmt::Result {
-        if self.input.len() > MOST_BYTES {
-            return writeln!(f, "the input is longer than {MOST_BYTES} bytes");
-        }
         let mut progress = Progress::new();
-        let mut number: u64 = 0;
-        let mut rest = self.input;
-        while let Some((line, after)) = first_line(rest) {
-            number = number.saturating_add(1);
-            write!(f, "{number}: ")?;
-            let told = progress.tell(line);
-            writeln!(f, "{}", Said { told })?;
-            rest = after;
-        }
-        Ok(())
+        say_lines(f, self.input, |line| Ok(progress.tell(line)))
     }
+}
+
+// Says of each line in turn, after its number, what is told of it.
+pub fn say_lines<'a, W, F>(f: &mut fmt::Formatter<W>, input: &'a [u8], mut tell: F) -> fmt::Result
+where
+    W: fmt::Write,
+    F: FnMut(&'a [u8]) -> Result<Result<Declared<'a>, Refusal>, fmt::Error>,
+    requires { F.IsAlwaysCallable tell }
+{
+    if input.len() > MOST_BYTES {
+        return writeln!(f, "the input is longer than {MOST_BYTES} bytes");
+    }
+    for (number, line) in (1u64..).zip(Lines::of(input)) {
+        let told = tell(line)?;
+        writeln!(f, "{number}: {}", Said { told })?;
+    }
+    Ok(())
 }

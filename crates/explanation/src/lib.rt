@@ -3,4 +3,4 @@
 
 mod explanation;
 
-pub use explanation::{Explanation, MOST_BYTES};
+pub use explanation::{Explanation, MOST_BYTES, say_lines};

@@ -1,11 +1,9 @@
 // What is said of a whole file, a line for each of its own, with its network beside it.
 use draft::Draft;
-use explanation::MOST_BYTES;
-use input::first_line;
-use outline::Told;
+use explanation::say_lines;
+use refusals::BuildError;
 use std::alloc::Global;
 use std::fmt;
-use wording::Said;
 
 // What an input declares, shown line by line.
 #[derive(Clone, Copy)]
@@ -17,27 +15,12 @@ pub(crate) struct Explained<'a> {
 
 impl fmt::Display for Explained<'_> {
     fn fmt<W: fmt::Write>(&self, f: &mut fmt::Formatter<W>) -> fmt::Result {
-        if self.input.len() > MOST_BYTES {
-            return writeln!(f, "the input is longer than {MOST_BYTES} bytes");
-        }
         let mut draft = Draft::new(self.heap);
-        let mut number: u64 = 0;
-        let mut rest = self.input;
-        while let Some((line, after)) = first_line(rest) {
-            number = number.saturating_add(1);
-            write!(f, "{number}: ")?;
-            let told = next(&mut draft, line)?;
-            writeln!(f, "{}", Said { told })?;
-            rest = after;
-        }
-        Ok(())
-    }
-}
-
-// What is said of the next line; a want of memory is an error of the text.
-fn next<'a>(draft: &mut Draft, line: &'a [u8]) -> Result<Told<'a>, fmt::Error> {
-    match draft.tell(line) {
-        Ok(told) => Ok(told),
-        Err(_) => Err(fmt::Error),
+        say_lines(f, self.input, |line| match draft.tell(line) {
+            Ok(declared) => Ok(Ok(declared)),
+            Err(BuildError::Refused(refusal)) => Ok(Err(refusal)),
+            // a want of memory is an error of the text
+            Err(BuildError::NoMemory(_)) => Err(fmt::Error),
+        })
     }
 }

@@ -6,7 +6,7 @@ mod file;
 mod reads;
 
 use crate::explained::Explained;
-use crate::file::first_file;
+use crate::file::Files;
 use crate::reads::Reads;
 use draft::assembled;
 use std::io;
@@ -18,9 +18,8 @@ fn print_file(rt: &HostRuntime, input: &[u8]) -> io::Result<()> {
     print!(rt; "{}", Explained { input, heap })?;
     let survey = Survey::of(heap, assembled(heap, input)?)?;
     print!(rt; "{survey}")?;
-    match &survey.order {
-        Order::Levels(network) => print!(rt; "{}", Reads { network })?,
-        Order::Circle(_) => {}
+    if let Order::Levels(network) = &survey.order {
+        print!(rt; "{}", Reads { network })?;
     }
     println!(rt; "--")
 }
@@ -28,10 +27,8 @@ fn print_file(rt: &HostRuntime, input: &[u8]) -> io::Result<()> {
 fn main(rt: HostRuntime) -> io::Result<()> {
     let mut input = Vec::new(rt.alloc());
     rt.stdin().take(65_536).read_to_end(&mut input)?;
-    let mut rest = input.as_slice();
-    while let Some((file, after)) = first_file(rest) {
+    for file in Files::of(input.as_slice()) {
         print_file(&rt, file)?;
-        rest = after;
     }
     Ok(())
 }

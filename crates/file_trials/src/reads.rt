@@ -1,7 +1,5 @@
 // What is read of a frozen network, reaction by reaction and input by input.
 use frozen::Network;
-use lines::TriggerKind;
-use network::TargetKind;
 use std::fmt;
 
 #[derive(Clone, Copy)]
@@ -29,31 +27,15 @@ fn say_order<W: fmt::Write>(f: &mut fmt::Formatter<W>, network: &Network) -> fmt
     writeln!(f)
 }
 
-fn trigger_word(kind: TriggerKind) -> &'static str {
-    match kind {
-        TriggerKind::Input => "input",
-        TriggerKind::Timer => "timer",
-        TriggerKind::Action => "action",
-        TriggerKind::ReadInput => "read",
-    }
-}
-
 fn say_readings<W: fmt::Write>(
     f: &mut fmt::Formatter<W>,
     network: &Network,
     reaction: usize,
 ) -> fmt::Result {
     for reading in network.readings(reaction) {
-        write!(f, " {} {}", trigger_word(reading.kind), reading.source)?;
+        write!(f, " {} {}", reading.kind, reading.source)?;
     }
     Ok(())
-}
-
-fn target_word(kind: TargetKind) -> &'static str {
-    match kind {
-        TargetKind::Output => "output",
-        TargetKind::Action => "action",
-    }
 }
 
 fn say_targets<W: fmt::Write>(
@@ -63,7 +45,7 @@ fn say_targets<W: fmt::Write>(
 ) -> fmt::Result {
     write!(f, " |")?;
     for target in network.targets(reaction) {
-        write!(f, " {} {}", target_word(target.kind), target.number)?;
+        write!(f, " {} {}", target.kind, target.number)?;
     }
     writeln!(f)
 }

@@ -1,23 +1,14 @@
 // Freezing an assembly.
-ghost use Rattle.network.specs.Meaning.{parts_of};
-ghost use Rattle.frozen.specs.Freezing.{Freezes, Why};
+ghost use Rattle.frozen.specs.Freezing.{Freezes};
 
 use crate::frozen::Network;
 use network::Assembly;
-use precedence::{Precedence, PrecedenceError};
-use refusals::{BuildError, Refusal};
+use precedence::Precedence;
+use refusals::BuildError;
 use std::alloc::Global;
 
-fn why(error: PrecedenceError) -> BuildError
-    ensures { Why error result }
-{
-    match error {
-        PrecedenceError::Circle(_) => BuildError::Refused(Refusal::Circle),
-        PrecedenceError::NoMemory => BuildError::NoMemory,
-    }
-}
-
 // Takes the assembly away, or hands it back where a chain of direct precedences leads from some reaction to itself.
+#[tactic(auto, using(crate::proofs::Answered::handed_back))]
 pub fn freeze(heap: Global, assembly: Assembly) -> Result<Network, (Assembly, BuildError)>
     ensures { Freezes assembly result }
 {
@@ -26,6 +17,6 @@ pub fn freeze(heap: Global, assembly: Assembly) -> Result<Network, (Assembly, Bu
             assembly,
             precedence,
         }),
-        Err(error) => Err((assembly, why(error))),
+        Err(error) => Err((assembly, error.into())),
     }
 }

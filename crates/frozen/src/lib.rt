@@ -3,7 +3,6 @@
 
 mod freezing;
 mod frozen;
-mod reads;
 
 pub use freezing::freeze;
 pub use frozen::Network;

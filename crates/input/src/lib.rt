@@ -3,4 +3,4 @@
 
 mod split;
 
-pub use split::first_line;
+pub use split::{Lines, first_line};

@@ -1,25 +1,23 @@
 -- Levels or a circle, from the longest chains.
-use Rattle.std.proofs.Common.{◌≡◌, ℕ, zero, suc, ◌-◌, ◌<◌, ◌≤◌, List, [], ◌∷◌, length, get_or, sym, subst, ⊎_elim, arith}
+use Rattle.std.proofs.Common.{◌≡◌, ℕ, zero, suc, ◌-◌, ◌<◌, ◌≤◌, List, [], length, get_or, Contains, sym, subst, ⊎_elim, arith}
 use Rattle.std.proofs.lemmas.List.{get_or_past}
+use Rattle.std.proofs.lemmas.List.Elements.{All-contains}
 use Rattle.std.proofs.lemmas.Bool.{cases_lt}
 use Rattle.levels.specs.Answering.{Levels}
-use Rattle.levels.specs.Chains.{Has, Edge, Chain, stay, step, Circle, Level, longest}
+use Rattle.levels.specs.Chains.{Edge, Chain, stay, step, Circle, Level, longest}
 use Rattle.levels.specs.Rounds.{AllBelow, EdgesBelow, Longest}
 use Rattle.levels.proofs.Longest.{some_chain, last_edges, level, no_circle, no_longer}
+use Rattle.levels.proofs.Members.{contains_none}
 use Rattle.levels.proofs.Pigeons.{Within, goes_round}
-use Rattle.levels.proofs.Rounds.{below_at, edges_at, longest_le}
-
-has_below : (n x : ℕ) (xs : List ℕ) → AllBelow n xs → Has x xs → x < n
-has_below n x [] below h = absurd h
-has_below n x (y ∷ ys) below h = ⊎_elim (λ e. (let lt = below.0 in omega arith)) (λ k. has_below n x ys below.1 k) h
+use Rattle.levels.proofs.Rounds.{edges_at, longest_le}
 
 pub edge_below : (g : List (List ℕ)) (n a b : ℕ) → EdgesBelow n g → Edge g a b → a < n
-edge_below g n a b edges edge = has_below n a (get_or g b []) (edges_at n g b edges) edge
+edge_below g n a b edges edge = All-contains (λ x. x < n) (get_or g b []) a (edges_at n g b edges) edge
 
 within : (g : List (List ℕ)) → EdgesBelow (length g) g → Within (Edge g) (length g)
 within g edges a b edge = (
   edge_below g (length g) a b edges edge,
-  ⊎_elim (λ lt. lt) (λ past. absurd (subst (Has a) (get_or_past g b [] past) edge)) (cases_lt b (length g)),
+  ⊎_elim (λ lt. lt) (λ past. absurd (contains_none a (subst (λ (xs : List ℕ). Contains xs a) (get_or_past g b [] past) edge))) (cases_lt b (length g)),
 )
 
 -- nothing leads to what is no node
@@ -28,13 +26,13 @@ bare g b past = record { start = b; chain = stay; longest = λ m a chain. none m
   where
     none : (m a c : ℕ) → length g ≤ c → Chain (Edge g) m a c → m ≤ 0
     none zero a c far stay = omega arith
-    none (suc m) a c far (step {b = d} chain edge) = absurd (subst (Has d) (get_or_past g c [] far) edge)
+    none (suc m) a c far (step {b = d} chain edge) = absurd (contains_none d (subst (λ (xs : List ℕ). Contains xs d) (get_or_past g c [] far) edge))
 
 pub levelled : (g : List (List ℕ)) (xs : List ℕ) → Longest g (length g) (length g) xs → AllBelow (length g) xs → Levels g xs
 levelled g xs so short =
     let each : (b : ℕ) → b < length g → Level (Edge g) b (get_or xs b 0) = λ b lt.
     let is = so.each b lt in
-    let small = below_at (length g) xs b short (let size = so.size in omega arith) in
+    let small = short b 0 (let size = so.size in omega arith) in
     subst (Level (Edge g) b) (sym is) (level g (length g) b (omega arith)) in
     record {
       size = so.size;

@@ -1,21 +1,20 @@
 -- Going back from a node to which chains of any length lead comes round.
-use Rattle.std.proofs.Common.{◌≡◌, ℕ, zero, suc, ◌+◌, ◌-◌, ◌<◌, ◌≤◌, List, [], ◌∷◌, ◌++◌, reverse, length, get_or, take, drop, sym, refl, ap, ◌∙◌, subst, inl, inr, ⊎_elim, arith}
+use Rattle.std.proofs.Common.{◌≡◌, ◌≢◌, All, ℕ, zero, suc, ◌+◌, ◌-◌, ◌<◌, ◌≤◌, List, [], ◌∷◌, ◌++◌, reverse, length, get_or, take, drop, sym, refl, ap, ◌∙◌, subst, arith}
 use Rattle.std.proofs.lemmas.List.{length_push, length-reverse, length-drop, get_or-drop, get_or_push, get_or_append_left, reverse-append, take_rest}
-use Rattle.levels.specs.Chains.{Has, Edge, Leads, Round, longest}
+use Rattle.std.proofs.lemmas.List.Elements.{All-contains, All-push}
+use Rattle.levels.specs.Chains.{Edge, Leads, Round}
 use Rattle.levels.specs.Rounds.{AllBelow, EdgesBelow, Longest}
 use Rattle.levels.proofs.Acyclic.{looped_before_lem, edge_below}
-use Rattle.levels.proofs.Members.{has_append, place_of}
-use Rattle.levels.proofs.Pigeons.{Apart, few}
-use Rattle.levels.proofs.Rounds.{below_at, below_push}
+use Rattle.levels.proofs.Pigeons.{Apart, apart_push, few}
 
 -- a node of which no predecessor's number is the number of nodes
-pub no_end : (g : List (List ℕ)) (n b : ℕ) (numbers : List ℕ) → length g ≡ n → EdgesBelow n g → Longest g n n numbers → b < n → n ≤ get_or numbers b 0 → ((a : ℕ) → Has a (get_or g b []) → get_or numbers a 0 < n) → ⊥
-no_end g n b numbers same edges so lt ge none =
+pub no_end : (g : List (List ℕ)) (b : ℕ) (numbers : List ℕ) → EdgesBelow (length g) g → Longest g (length g) (length g) numbers → b < length g → length g ≤ get_or numbers b 0 → All (λ a. get_or numbers a 0 < length g) (get_or g b []) → ⊥
+no_end g b numbers edges so lt ge none =
     let is = so.each b lt in
-    let back = subst (λ (m : ℕ). EdgesBelow m g → b < m → m ≤ longest g m b → (a : ℕ) × (Edge g a b × (m ≤ longest g m a))) same (λ e l k. looped_before_lem g e b l k) edges lt (omega arith) in
+    let back = looped_before_lem g edges b lt (omega arith) in
     let a : ℕ = back.0 in
-    let below : a < n = edge_below g n a b edges back.1.0 in
-    let short = none a back.1.0 in
+    let below : a < length g = edge_below g (length g) a b edges back.1.0 in
+    let short = All-contains (λ (x : ℕ). get_or numbers x 0 < length g) (get_or g b []) a none back.1.0 in
     let number = so.each a below in
     let long = back.1.1 in
     omega arith
@@ -35,11 +34,6 @@ pub record Walk (g : List (List ℕ)) (n k : ℕ) (numbers path : List ℕ) (nod
   pub here : get_or path k 0 ≡ node
   pub looped : n ≤ get_or numbers node 0
 
-pub walk_starts : (g : List (List ℕ)) (n : ℕ) (numbers path : List ℕ) (node : ℕ) → path ≡ node ∷ [] → node < n → n ≤ get_or numbers node 0 → Walk g n 0 numbers path node
-walk_starts g n numbers path node is lt ge =
-    subst (λ (xs : List ℕ). Walk g n 0 numbers xs node) (sym is)
-    (record { many = refl; below = (lt, tt); apart = (λ h. h, tt); trail = tt; here = refl; looped = ge })
-
 trail_push : (E : ℕ → ℕ → Type 0) (xs : List ℕ) (k b a : ℕ) → length xs ≡ k + 1 → get_or xs k 0 ≡ b → Trail E xs → E a b → Trail E (xs ++ a ∷ [])
 trail_push E [] k b a many here trail edge = tt
 trail_push E (x ∷ []) zero b a many here trail edge = (subst (E a) (sym here) edge, tt)
@@ -47,20 +41,13 @@ trail_push E (x ∷ []) (suc k) b a many here trail edge = absurd (omega arith)
 trail_push E (x ∷ y ∷ xs) zero b a many here trail edge = absurd (omega arith)
 trail_push E (x ∷ y ∷ xs) (suc k) b a many here trail edge = (trail.0, trail_push E (y ∷ xs) k b a (omega arith) here trail.1 edge)
 
-apart_push : (xs : List ℕ) (a : ℕ) → Apart xs → (Has a xs → ⊥) → Apart (xs ++ a ∷ [])
-apart_push [] a apart none = (λ h. h, tt)
-apart_push (x ∷ xs) a apart none = (
-  λ h. ⊎_elim (λ k. apart.0 k) (λ k. ⊎_elim (λ e. none (inl (sym e))) (λ z. z) k) (has_append x xs (a ∷ []) h),
-  apart_push xs a apart.1 (λ h. none (inr h)),
-)
-
-pub walk_on : (g : List (List ℕ)) (n k : ℕ) (numbers path : List ℕ) (node a : ℕ) (old next : List ℕ) → old ≡ path → next ≡ path ++ a ∷ [] → Walk g n k numbers path node → EdgesBelow n g → Edge g a node → n ≤ get_or numbers a 0 → ((i : ℕ) → i < length old → get_or old i 0 ≡ a → ⊥) → Walk g n (k + 1) numbers next a
+pub walk_on : (g : List (List ℕ)) (n k : ℕ) (numbers path : List ℕ) (node a : ℕ) (old next : List ℕ) → old ≡ path → next ≡ path ++ a ∷ [] → Walk g n k numbers path node → EdgesBelow n g → Edge g a node → n ≤ get_or numbers a 0 → All (λ other. other ≢ a) old → Walk g n (k + 1) numbers next a
 walk_on g n k numbers path node a old next was is walk edges edge ge fresh =
     subst (λ (xs : List ℕ). Walk g n (k + 1) numbers xs a) (sym is)
     (record {
       many = (let long = length_push path a in let many = walk.many in omega arith);
-      below = below_push n path a walk.below (edge_below g n a node edges edge);
-      apart = apart_push path a walk.apart (λ h. let some = place_of a old (subst (Has a) (sym was) h) in fresh some.0 some.1.0 some.1.1);
+      below = All-push (λ x. x < n) path a walk.below (edge_below g n a node edges edge);
+      apart = apart_push path a walk.apart (λ h. All-contains (λ other. other ≢ a) path a (subst (All (λ other. other ≢ a)) was fresh) h refl);
       trail = trail_push (Edge g) path k node a walk.many walk.here walk.trail edge;
       here = get_or_push path a 0 (k + 1) walk.many;
       looped = ge;
@@ -69,9 +56,6 @@ walk_on g n k numbers path node a old next was is walk edges edge ge fresh =
 -- n + 1 nodes below n are not apart
 pub walk_ends : (g : List (List ℕ)) (n k : ℕ) (numbers path : List ℕ) (node : ℕ) → Walk g n k numbers path node → n ≤ k → ⊥
 walk_ends g n k numbers path node walk le = let small = few n path walk.apart walk.below in let many = walk.many in omega arith
-
-pub walk_below : (g : List (List ℕ)) (n k : ℕ) (numbers path : List ℕ) (node : ℕ) → Walk g n k numbers path node → node < n
-walk_below g n k numbers path node walk = let at = below_at n path k walk.below (let many = walk.many in omega arith) in let here = walk.here in omega arith
 
 trail_drop : (E : ℕ → ℕ → Type 0) (i : ℕ) (xs : List ℕ) → Trail E xs → Trail E (drop i xs)
 trail_drop E zero xs trail = trail

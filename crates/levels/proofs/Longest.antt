@@ -1,12 +1,19 @@
 -- Longest chains.
-use Rattle.std.proofs.Common.{◌≡◌, ℕ, zero, suc, ◌+◌, ◌-◌, ◌<◌, ◌≤◌, ◌⊎◌, List, [], ◌∷◌, get_or, sym, refl, ap, ◌∙◌, subst, inl, inr, ⊎_elim, add-zero, add-suc, add-one, arith}
+use Rattle.std.proofs.Common.{◌≡◌, ℕ, zero, suc, ◌+◌, ◌-◌, ◌<◌, ◌≤◌, ◌⊎◌, List, [], ◌∷◌, max, fold, Contains, get_or, sym, refl, ap, ◌∙◌, subst, inl, inr, ⊎_elim, add-zero, add-suc, add-one, arith}
 use Rattle.std.proofs.lemmas.Bool.{cases_lt}
-use Rattle.levels.specs.Chains.{Has, Edge, Chain, stay, step, Circle, Level, most, longest}
+use Rattle.std.proofs.lemmas.List.Recursion.{max_bounds}
+use Rattle.levels.specs.Chains.{Edge, Chain, stay, step, Circle, Level, most, longest}
+use Rattle.levels.proofs.Members.{contains_first, contains_later}
 
-most_has : (f : ℕ → ℕ) (a : ℕ) (xs : List ℕ) → Has a xs → f a + 1 ≤ most f xs
-most_has f a [] h = absurd h
-most_has f a (b ∷ xs) (inl e) = let same = ap f e in omega arith
-most_has f a (b ∷ xs) (inr h) = let more = most_has f a xs h in omega arith
+fold_from : (f : ℕ → ℕ) (b : ℕ) (xs : List ℕ) → fold (λ best a. max best (f a + 1)) b xs ≡ max b (most f xs)
+fold_from f b [] = omega arith
+fold_from f b (x ∷ xs) = let here = fold_from f (max b (f x + 1)) xs in let all = fold_from f (max 0 (f x + 1)) xs in omega arith
+
+pub most_cons : (f : ℕ → ℕ) (x : ℕ) (xs : List ℕ) → most f (x ∷ xs) ≡ max (f x + 1) (most f xs)
+most_cons f x xs = let all = fold_from f (max 0 (f x + 1)) xs in omega arith
+
+most_has : (f : ℕ → ℕ) (a : ℕ) (xs : List ℕ) → Contains xs a → f a + 1 ≤ most f xs
+most_has f a xs h = let bound = max_bounds (most f) (λ x. f x + 1) refl (most_cons f) xs h.0 a h.1 in let same = ap f h.2 in omega arith
 
 -- a chain is no longer than the longest
 pub no_longer : (g : List (List ℕ)) (k n a b : ℕ) → Chain (Edge g) n a b → n ≤ k → n ≤ longest g k b
@@ -18,12 +25,13 @@ no_longer g (suc k) (suc n) a c (step {b = b} chain edge) le =
     omega arith
 
 -- the most is none, or one more than some
-pub most_is : (f : ℕ → ℕ) (xs : List ℕ) → (most f xs ≡ 0) ⊎ ((a : ℕ) × (Has a xs × (most f xs ≡ f a + 1)))
+pub most_is : (f : ℕ → ℕ) (xs : List ℕ) → (most f xs ≡ 0) ⊎ ((a : ℕ) × (Contains xs a × (most f xs ≡ f a + 1)))
 most_is f [] = inl refl
 most_is f (a ∷ xs) =
+    let all = most_cons f a xs in
     ⊎_elim
-    (λ (le : most f xs < f a + 1). inr (a, (inl refl, omega arith)))
-    (λ ge. ⊎_elim (λ none. absurd (omega arith)) (λ some. inr (some.0, (inr some.1.0, (let e = some.1.1 in omega arith)))) (most_is f xs))
+    (λ (le : most f xs < f a + 1). inr (a, (contains_first a xs, omega arith)))
+    (λ ge. ⊎_elim (λ none. absurd (omega arith)) (λ some. inr (some.0, (contains_later a xs some.0 some.1.0, (let e = some.1.1 in omega arith)))) (most_is f xs))
     (cases_lt (most f xs) (f a + 1))
 
 -- there is a chain as long as the longest

@@ -1,36 +1,65 @@
--- What stands in a list.
-use Rattle.std.proofs.Common.{◌≡◌, ℕ, zero, suc, ◌+◌, ◌<◌, ◌⊎◌, List, [], ◌∷◌, ◌++◌, length, get_or, take, sym, refl, subst, inl, inr, ⊎_elim, arith}
-use Rattle.std.proofs.lemmas.List.{take_more}
-use Rattle.levels.specs.Chains.{Has}
+-- What a list contains.
+use Rattle.std.proofs.Common.{◌≡◌, ℕ, zero, suc, ◌+◌, ◌<◌, ◌≤◌, cond, true, false, Bool, ◌⊎◌, List, [], ◌∷◌, filter, Contains, sym, refl, ap, ◌∙◌, subst, inl, inr, ⊎_elim, arith}
+use Rattle.std.specs.List.{range_with_len}
+use Rattle.std.proofs.lemmas.List.Elements.{All-contains, All-contains_itself, All-filter, filter_passes, Contains-get_or, Contains-append_cases, Contains-append_right, Contains-push_cases}
+use Rattle.std.proofs.lemmas.List.FromFn.{get_or-range_with_len, length-range_with_len}
+use Rattle.std.proofs.lemmas.Bool.{cases_eq}
 
-pub has_at : (xs : List ℕ) (i : ℕ) → i < length xs → Has (get_or xs i 0) xs
-has_at [] i lt = absurd (omega arith)
-has_at (x ∷ xs) zero lt = inl refl
-has_at (x ∷ xs) (suc i) lt = inr (has_at xs i (omega arith))
+module _ {A : Type 0} where
+  pub contains_none : (x : A) → Contains [] x → ⊥
+  contains_none x h = let lt = h.1 in omega arith
 
-pub place_of : (x : ℕ) (xs : List ℕ) → Has x xs → (i : ℕ) × ((i < length xs) × (get_or xs i 0 ≡ x))
-place_of x [] h = absurd h
-place_of x (y ∷ xs) (inl e) = (0, (omega arith, sym e))
-place_of x (y ∷ xs) (inr h) = let some = place_of x xs h in (suc some.0, (let lt = some.1.0 in omega arith, some.1.1))
+  pub contains_first : (y : A) (ys : List A) → Contains (y ∷ ys) y
+  contains_first y ys = Contains-get_or (y ∷ ys) 0 y (omega arith)
 
-pub has_append : {A : Type 0} (x : A) (ys zs : List A) → Has x (ys ++ zs) → Has x ys ⊎ Has x zs
-has_append x [] zs h = inr h
-has_append x (y ∷ ys) zs (inl e) = inl (inl e)
-has_append x (y ∷ ys) zs (inr h) = ⊎_elim (λ l. inl (inr l)) inr (has_append x ys zs h)
+  pub contains_later : (y : A) (ys : List A) (x : A) → Contains ys x → Contains (y ∷ ys) x
+  contains_later y ys x h = Contains-append_right (y ∷ []) ys x h
 
-pub has_left : {A : Type 0} (x : A) (ys zs : List A) → Has x ys → Has x (ys ++ zs)
-has_left x [] zs h = absurd h
-has_left x (y ∷ ys) zs (inl e) = inl e
-has_left x (y ∷ ys) zs (inr h) = inr (has_left x ys zs h)
+  pub contains_cons : (y : A) (ys : List A) (x : A) → Contains (y ∷ ys) x → (y ≡ x) ⊎ Contains ys x
+  contains_cons y ys x h =
+      ⊎_elim
+      (λ one. ⊎_elim (λ none. absurd (contains_none x none)) (λ e. inl e) (Contains-push_cases [] y x one))
+      (λ more. inr more)
+      (Contains-append_cases (y ∷ []) ys x h)
 
-pub has_right : {A : Type 0} (x : A) (ys zs : List A) → Has x zs → Has x (ys ++ zs)
-has_right x [] zs h = h
-has_right x (y ∷ ys) zs h = inr (has_right x ys zs h)
+  -- what a filter keeps
+  pub kept_contains : (p : A → Bool) (xs : List A) (x : A) → Contains (filter p xs) x → Contains xs x × (p x ≡ true)
+  kept_contains p xs x h = (
+    All-contains (Contains xs) (filter p xs) x (All-filter p (Contains xs) xs (All-contains_itself xs)) h,
+    All-contains (λ y. p y ≡ true) (filter p xs) x (filter_passes p xs) h,
+  )
 
--- what holds of the first i and of the next holds of the first i + 1
-pub each_more : (P : ℕ → Type 0) (xs : List ℕ) (i : ℕ) → i < length xs → ((a : ℕ) → Has a (take i xs) → P a) → P (get_or xs i 0) → (a : ℕ) → Has a (take (i + 1) xs) → P a
-each_more P xs i lt each here a h =
+  pub contains_kept : (p : A → Bool) (xs : List A) (x : A) → Contains xs x → p x ≡ true → Contains (filter p xs) x
+  contains_kept p [] x h is = h
+  contains_kept p (y ∷ ys) x h is = go (p y) refl (contains_cons y ys x h) (λ k. contains_kept p ys x k is)
+    where
+      go : (b : Bool) → p y ≡ b → (y ≡ x) ⊎ Contains ys x → (Contains ys x → Contains (filter p ys) x) → Contains (cond b (y ∷ filter p ys) (filter p ys)) x
+      go true e (inl same) more = subst (Contains (y ∷ filter p ys)) same (contains_first y (filter p ys))
+      go true e (inr k) more = contains_later y (filter p ys) x (more k)
+      go false e (inl same) more = absurd (let z : true ≡ false = sym is ∙ ap p (sym same) ∙ e in cc)
+      go false e (inr k) more = more k
+
+pub contains_or_not : (xs : List ℕ) (x : ℕ) → Contains xs x ⊎ (Contains xs x → ⊥)
+contains_or_not [] x = inr (contains_none x)
+contains_or_not (y ∷ ys) x =
     ⊎_elim
-    (λ k. each a k)
-    (λ k. ⊎_elim (λ e. subst P (sym e) here) (λ none. absurd none) k)
-    (has_append a (take i xs) (get_or xs i 0 ∷ []) (subst (Has a) (take_more xs i 0 lt) h))
+    (λ e. inl (subst (Contains (y ∷ ys)) e (contains_first y ys)))
+    (λ ne. ⊎_elim (λ h. inl (contains_later y ys x h)) (λ none. inr (λ h. ⊎_elim ne none (contains_cons y ys x h))) (contains_or_not ys x))
+    (cases_eq y x)
+
+-- numbers from a on
+pub counted_contains : (a n x : ℕ) → Contains (range_with_len a n) x → (a ≤ x) × (x < a + n)
+counted_contains a n x h =
+    let long = length-range_with_len a n in
+    let at = get_or-range_with_len a n h.0 x (let lt = h.1 in omega arith) in
+    let is = h.2 in
+    let lt = h.1 in
+    (omega arith, omega arith)
+
+pub contains_counted : (a n x : ℕ) → a ≤ x → x < a + n → Contains (range_with_len a n) x
+contains_counted a zero x lo hi = absurd (omega arith)
+contains_counted a (suc n) x lo hi =
+    ⊎_elim
+    (λ (e : a ≡ x). subst (Contains (range_with_len a (suc n))) e (contains_first a (range_with_len (a + 1) n)))
+    (λ ne. contains_later a (range_with_len (a + 1) n) x (contains_counted (a + 1) n x (omega arith) (omega arith)))
+    (cases_eq a x)

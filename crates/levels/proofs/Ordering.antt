@@ -1,98 +1,78 @@
 -- The nodes level by level are in order.
-use Rattle.std.proofs.Common.{◌≡◌, ℕ, zero, suc, ◌+◌, ◌<◌, cond, eqb, List, [], ◌∷◌, ◌++◌, length, get_or, sym, refl, ap, ◌∙◌, subst, inl, inr, ⊎_elim, add-one, arith}
-use Rattle.std.proofs.lemmas.List.{append_assoc, append-nil}
-use Rattle.std.proofs.lemmas.Bool.{cases_eq, cases_lt, cond_both, cond-true, cond-false, eqb-true, eq-eqb, ne_eqb}
-use Rattle.levels.specs.Chains.{Has}
-use Rattle.levels.specs.Ordered.{Earlier, Ascending, Ordered, at_level, up_to, by_level}
+use Rattle.std.proofs.Common.{◌≡◌, ℕ, zero, suc, ◌+◌, ◌<◌, ◌≤◌, eqb, List, [], ◌∷◌, ◌++◌, length, get_or, All, Contains, sym, ◌∙◌, inl, inr, ⊎_elim, arith}
+use Rattle.std.specs.List.{AllPairs, flat_map, range_with_len}
+use Rattle.std.proofs.lemmas.Bool.{cases_eq, eqb-true, eq-eqb}
+use Rattle.std.proofs.lemmas.List.Elements.{All-append, All-contains, All-nil, Contains-append_left, Contains-append_right, Contains-get_or}
+use Rattle.std.proofs.lemmas.List.FromFn.{get_or-range_with_len, length-range_with_len}
+use Rattle.std.proofs.lemmas.List.Kept.{AllPairs-cons, AllPairs-filter}
+use Rattle.levels.specs.Ordered.{Earlier, Ascending, Ordered, at_level, by_level}
 use Rattle.levels.specs.Rounds.{AllBelow}
-use Rattle.levels.proofs.Members.{has_append, has_left, has_right}
-use Rattle.levels.proofs.Rounds.{below_at}
+use Rattle.levels.proofs.Members.{contains_kept, contains_counted, counted_contains, kept_contains}
 
--- one node more
-pub level_more : (xs : List ℕ) (l n : ℕ) (front ys : List ℕ) → ys ≡ front ++ at_level xs l n → get_or xs n 0 ≡ l → ys ++ n ∷ [] ≡ front ++ at_level xs l (n + 1)
-level_more xs l n front ys is here =
-    ap (λ (zs : List ℕ). zs ++ n ∷ []) is ∙ append_assoc front (at_level xs l n) (n ∷ [])
-    ∙ ap (λ (zs : List ℕ). front ++ (at_level xs l n ++ zs)) (sym (cond-true (eqb (get_or xs n 0) l) (n ∷ []) [] (eq-eqb _ _ here)))
-    ∙ ap (λ (m : ℕ). front ++ at_level xs l m) (sym (add-one n))
+pairs_append : {A : Type 0} (R : A → A → Type 0) (xs ys : List A) → AllPairs R xs → AllPairs R ys → All (λ x. All (R x) ys) xs → AllPairs R (xs ++ ys)
+pairs_append R [] ys front back across = back
+pairs_append R (x ∷ xs) ys front back across =
+    AllPairs-cons R x (xs ++ ys)
+    (All-append (R x) xs ys (λ k d lt. front 0 (suc k) d (omega arith) (omega arith)) (across 0 x (omega arith)))
+    (pairs_append R xs ys (λ i j d lt below. front (suc i) (suc j) d (omega arith) (omega arith)) back (λ k d lt. across (suc k) d (omega arith)))
 
-pub level_same : (xs : List ℕ) (l n : ℕ) (front ys : List ℕ) → ys ≡ front ++ at_level xs l n → (get_or xs n 0 ≡ l → ⊥) → ys ≡ front ++ at_level xs l (n + 1)
-level_same xs l n front ys is other =
-    is
-    ∙ ap (λ (zs : List ℕ). front ++ zs) (sym (append-nil (at_level xs l n)))
-    ∙ ap (λ (zs : List ℕ). front ++ (at_level xs l n ++ zs)) (sym (cond-false (eqb (get_or xs n 0) l) (n ∷ []) [] (ne_eqb _ _ other)))
-    ∙ ap (λ (m : ℕ). front ++ at_level xs l m) (sym (add-one n))
+at_only : (xs : List ℕ) (l b : ℕ) → Contains (at_level xs l) b → (b < length xs) × (get_or xs b 0 ≡ l)
+at_only xs l b h =
+    let kept = kept_contains (λ i. eqb (get_or xs i 0) l) (range_with_len 0 (length xs)) b h in
+    (let lt = (counted_contains 0 (length xs) b kept.0).1 in omega arith, eqb-true (get_or xs b 0) l kept.1)
 
--- one level more
-pub levels_more : (xs : List ℕ) (m : ℕ) (ys zs : List ℕ) → ys ≡ up_to xs m → zs ≡ ys ++ at_level xs m (length xs) → zs ≡ up_to xs (m + 1)
-levels_more xs m ys zs is more = more ∙ ap (λ (ws : List ℕ). ws ++ at_level xs m (length xs)) is ∙ ap (up_to xs) (sym (add-one m))
+at_all : (xs : List ℕ) (l b : ℕ) → b < length xs → get_or xs b 0 ≡ l → Contains (at_level xs l) b
+at_all xs l b lt is =
+    contains_kept (λ i. eqb (get_or xs i 0) l) (range_with_len 0 (length xs)) b (contains_counted 0 (length xs) b (omega arith) (omega arith)) (eq-eqb (get_or xs b 0) l is)
 
-at_only : (xs : List ℕ) (l n b : ℕ) → Has b (at_level xs l n) → (b < n) × (get_or xs b 0 ≡ l)
-at_only xs l zero b h = absurd h
-at_only xs l (suc n) b h =
-    ⊎_elim
-    (λ k. let more = at_only xs l n b k in (let lt = more.0 in omega arith, more.1))
-    (λ k. cond_both (eqb (get_or xs n 0) l) (n ∷ []) [] (λ (ys : List ℕ). Has b ys → (b < suc n) × (get_or xs b 0 ≡ l))
-    (λ e. here (eqb-true (get_or xs n 0) l e))
-    (λ e none. absurd none) k)
-    (has_append b (at_level xs l n) (cond (eqb (get_or xs n 0) l) (n ∷ []) []) h)
+at_ascending : (xs : List ℕ) (l : ℕ) → Ascending xs (at_level xs l)
+at_ascending xs l i j d lt below =
+    let level : (k : ℕ) → k < length (at_level xs l) → get_or xs (get_or (at_level xs l) k d) 0 ≡ l = λ k in'. (at_only xs l _ (Contains-get_or (at_level xs l) k d in')).1 in
+    inr (level i (omega arith) ∙ sym (level j below), AllPairs-filter (λ a b. a < b) (λ i. eqb (get_or xs i 0) l) (range_with_len 0 (length xs)) counting i j d lt below)
   where
-    here : get_or xs n 0 ≡ l → Has b (n ∷ []) → (b < suc n) × (get_or xs b 0 ≡ l)
-    here is (inl e) = (omega arith, ap (λ (i : ℕ). get_or xs i 0) e ∙ is)
-    here is (inr none) = absurd none
+    counting : AllPairs (λ a b. a < b) (range_with_len 0 (length xs))
+    counting i j d lt below =
+        let long = length-range_with_len 0 (length xs) in
+        let left = get_or-range_with_len 0 (length xs) i d (omega arith) in
+        let right = get_or-range_with_len 0 (length xs) j d (omega arith) in
+        omega arith
 
-at_all : (xs : List ℕ) (l n b : ℕ) → b < n → get_or xs b 0 ≡ l → Has b (at_level xs l n)
-at_all xs l zero b lt is = absurd (omega arith)
-at_all xs l (suc n) b lt is =
+-- the nodes of n levels from a on, by level
+from_level : List ℕ → ℕ → ℕ → List ℕ
+from_level xs a n = flat_map (at_level xs) (range_with_len a n)
+
+from_only : (xs : List ℕ) (a n : ℕ) → All (λ b. (b < length xs) × (a ≤ get_or xs b 0)) (from_level xs a n)
+unfolding from_level
+from_only xs a zero = All-nil _
+from_only xs a (suc n) =
+    All-append (λ (b : ℕ). (b < length xs) × (a ≤ get_or xs b 0)) (at_level xs a) (from_level xs (a + 1) n)
+    (λ k d lt. let here = at_only xs a _ (Contains-get_or (at_level xs a) k d lt) in (here.0, let is = here.1 in omega arith))
+    (λ k d lt. let more = from_only xs (a + 1) n k d lt in (more.0, let le = more.1 in omega arith))
+
+from_all : (xs : List ℕ) (a n b : ℕ) → b < length xs → a ≤ get_or xs b 0 → get_or xs b 0 < a + n → Contains (from_level xs a n) b
+unfolding from_level
+from_all xs a zero b lt lo hi = absurd (omega arith)
+from_all xs a (suc n) b lt lo hi =
     ⊎_elim
-    (λ (e : b ≡ n). has_right b (at_level xs l n) (cond (eqb (get_or xs n 0) l) (n ∷ []) [])
-    (subst (Has b) (sym (cond-true (eqb (get_or xs n 0) l) (n ∷ []) [] (eq-eqb _ _ (ap (λ (i : ℕ). get_or xs i 0) (sym e) ∙ is)))) (inl e)))
-    (λ ne. has_left b (at_level xs l n) (cond (eqb (get_or xs n 0) l) (n ∷ []) []) (at_all xs l n b (omega arith) is))
-    (cases_eq b n)
+    (λ (e : get_or xs b 0 ≡ a). Contains-append_left (at_level xs a) (from_level xs (a + 1) n) b (at_all xs a b lt e))
+    (λ ne. Contains-append_right (at_level xs a) (from_level xs (a + 1) n) b (from_all xs (a + 1) n b lt (omega arith) (omega arith)))
+    (cases_eq (get_or xs b 0) a)
 
-ascending_append : (xs ys zs : List ℕ) → Ascending xs ys → Ascending xs zs → ((a b : ℕ) → Has a ys → Has b zs → Earlier xs a b) → Ascending xs (ys ++ zs)
-ascending_append xs [] zs front back across = back
-ascending_append xs (y ∷ ys) zs front back across = (
-  λ b h. ⊎_elim (λ k. front.0 b k) (λ k. across y b (inl refl) k) (has_append b ys zs h),
-  ascending_append xs ys zs front.1 back (λ a b h k. across a b (inr h) k),
-)
-
-at_ascending : (xs : List ℕ) (l n : ℕ) → Ascending xs (at_level xs l n)
-at_ascending xs l zero = tt
-at_ascending xs l (suc n) =
-    ascending_append xs (at_level xs l n) (cond (eqb (get_or xs n 0) l) (n ∷ []) []) (at_ascending xs l n)
-    (cond_both (eqb (get_or xs n 0) l) (n ∷ []) [] (Ascending xs) (λ e. (λ b h. absurd h, tt)) (λ e. tt))
-    (λ a b h. cond_both (eqb (get_or xs n 0) l) (n ∷ []) [] (λ (ys : List ℕ). Has b ys → Earlier xs a b) (λ e k. after a b h (eqb-true (get_or xs n 0) l e) k) (λ e none. absurd none))
-  where
-    after : (a b : ℕ) → Has a (at_level xs l n) → get_or xs n 0 ≡ l → Has b (n ∷ []) → Earlier xs a b
-    after a b h is (inl e) = let low = at_only xs l n a h in inr (low.1 ∙ sym is ∙ ap (λ (i : ℕ). get_or xs i 0) (sym e), (let lt = low.0 in omega arith))
-    after a b h is (inr none) = absurd none
-
-up_only : (xs : List ℕ) (m b : ℕ) → Has b (up_to xs m) → (b < length xs) × (get_or xs b 0 < m)
-up_only xs zero b h = absurd h
-up_only xs (suc m) b h =
-    ⊎_elim
-    (λ k. let more = up_only xs m b k in (more.0, (let lt = more.1 in omega arith)))
-    (λ k. let more = at_only xs m (length xs) b k in (more.0, (let is = more.1 in omega arith)))
-    (has_append b (up_to xs m) (at_level xs m (length xs)) h)
-
-up_all : (xs : List ℕ) (m b : ℕ) → b < length xs → get_or xs b 0 < m → Has b (up_to xs m)
-up_all xs zero b lt low = absurd (omega arith)
-up_all xs (suc m) b lt low =
-    ⊎_elim
-    (λ less. has_left b (up_to xs m) (at_level xs m (length xs)) (up_all xs m b lt less))
-    (λ ge. has_right b (up_to xs m) (at_level xs m (length xs)) (at_all xs m (length xs) b lt (omega arith)))
-    (cases_lt (get_or xs b 0) m)
-
-up_ascending : (xs : List ℕ) (m : ℕ) → Ascending xs (up_to xs m)
-up_ascending xs zero = tt
-up_ascending xs (suc m) =
-    ascending_append xs (up_to xs m) (at_level xs m (length xs)) (up_ascending xs m) (at_ascending xs m (length xs))
-    (λ a b h k. inl (let low = (up_only xs m a h).1 in let is = (at_only xs m (length xs) b k).1 in omega arith))
+from_ascending : (xs : List ℕ) (a n : ℕ) → Ascending xs (from_level xs a n)
+unfolding from_level
+from_ascending xs a zero = λ i j d lt below. absurd (omega arith)
+from_ascending xs a (suc n) =
+    pairs_append (Earlier xs) (at_level xs a) (from_level xs (a + 1) n) (at_ascending xs a) (from_ascending xs (a + 1) n)
+    (λ k d lt j e below.
+    let low = (at_only xs a _ (Contains-get_or (at_level xs a) k d lt)).1 in
+    let high = (from_only xs (a + 1) n j e below).1 in
+    inl (omega arith))
 
 pub by_level_ordered : (xs : List ℕ) → AllBelow (length xs) xs → Ordered xs (by_level xs)
+unfolding from_level
 by_level_ordered xs short =
     record {
-      ascending = up_ascending xs (length xs);
-      all = λ b lt. up_all xs (length xs) b lt (below_at (length xs) xs b short lt);
-      only = λ b h. (up_only xs (length xs) b h).0;
+      ascending = from_ascending xs 0 (length xs);
+      all = λ b lt. from_all xs 0 (length xs) b lt (omega arith) (let low = short b 0 lt in omega arith);
+      only = λ b h. (All-contains (λ (i : ℕ). (i < length xs) × (0 ≤ get_or xs i 0)) (by_level xs) b (from_only xs 0 (length xs)) h).0;
     }

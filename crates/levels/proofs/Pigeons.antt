@@ -1,108 +1,67 @@
 -- A chain with as many edges as there are nodes goes round.
-use Rattle.std.proofs.Common.{◌≡◌, ℕ, zero, suc, ◌+◌, ◌<◌, ◌≤◌, Bool, true, false, cond, eqb, ◌⊎◌, List, [], ◌∷◌, length, sym, refl, ap, subst, inl, inr, ⊎_elim, arith}
-use Rattle.std.proofs.lemmas.Bool.{cases_eq, eqb-true, eqb-false}
-use Rattle.levels.specs.Chains.{Has, Chain, stay, step, Circle}
+use Rattle.std.proofs.Common.{◌≡◌, ◌≢◌, ℕ, suc, ◌+◌, ◌<◌, ◌≤◌, ◌⊎◌, List, [], ◌∷◌, ◌++◌, length, Contains, refl, subst, inl, inr, ⊎_elim, arith}
+use Rattle.std.specs.List.{AllPairs}
+use Rattle.std.proofs.lemmas.Bool.{eqb-true}
+use Rattle.std.proofs.lemmas.Bool.Decides.{Decides-eqb}
+use Rattle.std.proofs.lemmas.List.{length_push}
+use Rattle.std.proofs.lemmas.List.Elements.{All-contains, All-nil, All-push, Contains-get_or, Contains-push_cases}
+use Rattle.std.proofs.lemmas.List.Quantifiers.{all_pairs_push}
+use Rattle.std.proofs.lemmas.Map.Made.{IsDistinct-from_AllPairs}
+use Rattle.std.proofs.lemmas.Map.Steps.{length-le_from_distinct_below}
+use Rattle.std.proofs.lemmas.Map.Views.{Contains-from_any}
+use Rattle.levels.specs.Chains.{Chain, stay, step, Circle}
 use Rattle.levels.specs.Rounds.{AllBelow}
 use Rattle.levels.proofs.Longest.{joined}
+use Rattle.levels.proofs.Members.{contains_none, contains_or_not}
 
 -- no number stands twice
 abbrev pub Apart : List ℕ → Type 0
-Apart [] = Unit {0}
-Apart (x ∷ xs) = (Has x xs → ⊥) × Apart xs
+Apart xs = AllPairs (λ x y. x ≢ y) xs
 
-pub has_or_not : (x : ℕ) (xs : List ℕ) → Has x xs ⊎ (Has x xs → ⊥)
-has_or_not x [] = inr (λ h. h)
-has_or_not x (y ∷ ys) =
-    ⊎_elim
-    (λ e. inl (inl e))
-    (λ ne. ⊎_elim (λ h. inl (inr h)) (λ none. inr (λ h. ⊎_elim ne none h)) (has_or_not x ys))
-    (cases_eq x y)
+pub apart_none : Apart []
+apart_none i j d lt below = absurd (omega arith)
 
--- without one number
-abbrev without : ℕ → List ℕ → List ℕ
-without x [] = []
-without x (y ∷ ys) = cond (eqb x y) (without x ys) (y ∷ without x ys)
-
-has_without : (x z : ℕ) (ys : List ℕ) → Has z (without x ys) → Has z ys
-has_without x z [] h = h
-has_without x z (y ∷ ys) h = go (eqb x y) (has_without x z ys) h
-  where
-    go : (b : Bool) → (Has z (without x ys) → Has z ys) → Has z (cond b (without x ys) (y ∷ without x ys)) → Has z (y ∷ ys)
-    go true more k = inr (more k)
-    go false more (inl e) = inl e
-    go false more (inr k) = inr (more k)
-
-apart_without : (x : ℕ) (ys : List ℕ) → Apart ys → Apart (without x ys)
-apart_without x [] a = tt
-apart_without x (y ∷ ys) a = go (eqb x y) (apart_without x ys a.1)
-  where
-    go : (b : Bool) → Apart (without x ys) → Apart (cond b (without x ys) (y ∷ without x ys))
-    go true more = more
-    go false more = (λ h. a.0 (has_without x y ys h), more)
-
-below_without : (n : ℕ) (ys : List ℕ) → AllBelow (suc n) ys → AllBelow n (without n ys)
-below_without n [] b = tt
-below_without n (y ∷ ys) b = go (eqb n y) refl (below_without n ys b.1)
-  where
-    go : (t : Bool) → eqb n y ≡ t → AllBelow n (without n ys) → AllBelow n (cond t (without n ys) (y ∷ without n ys))
-    go true e more = more
-    go false e more = (let ne = eqb-false n y e in let lt = b.0 in omega arith, more)
-
--- what is not there is not taken out
-without_none : (x : ℕ) (ys : List ℕ) → (Has x ys → ⊥) → length (without x ys) ≡ length ys
-without_none x [] none = refl
-without_none x (y ∷ ys) none = go (eqb x y) refl (without_none x ys (λ h. none (inr h)))
-  where
-    go : (t : Bool) → eqb x y ≡ t → length (without x ys) ≡ length ys → length (cond t (without x ys) (y ∷ without x ys)) ≡ length (y ∷ ys)
-    go true e more = absurd (none (inl (eqb-true x y e)))
-    go false e more = ap suc more
-
-one_less : (x : ℕ) (ys : List ℕ) → Apart ys → length ys ≤ suc (length (without x ys))
-one_less x [] a = omega arith
-one_less x (y ∷ ys) a = go (eqb x y) refl (one_less x ys a.1)
-  where
-    go : (t : Bool) → eqb x y ≡ t → length ys ≤ suc (length (without x ys)) → length (y ∷ ys) ≤ suc (length (cond t (without x ys) (y ∷ without x ys)))
-    go true e more = let same = without_none x ys (λ h. a.0 (subst (λ (z : ℕ). Has z ys) (eqb-true x y e) h)) in omega arith
-    go false e more = omega arith
+pub apart_push : (xs : List ℕ) (a : ℕ) → Apart xs → (Contains xs a → ⊥) → Apart (xs ++ a ∷ [])
+apart_push xs a apart none = all_pairs_push (λ x y. x ≢ y) xs a apart (λ k d lt e. none (subst (Contains xs) e (Contains-get_or xs k d lt)))
 
 -- numbers below n, none twice, are at most n
 pub few : (n : ℕ) (xs : List ℕ) → Apart xs → AllBelow n xs → length xs ≤ n
-few zero [] a b = omega arith
-few zero (x ∷ xs) a b = let lt = b.0 in absurd (omega arith)
-few (suc n) xs a b =
-    let less = one_less n xs a in
-    let rest = few n (without n xs) (apart_without n xs a) (below_without n xs b) in
-    omega arith
+few n xs apart below =
+    length-le_from_distinct_below xs n
+    (IsDistinct-from_AllPairs Decides-eqb xs apart)
+    (λ q found. All-contains (λ x. x < n) xs q below (Contains-from_any eqb-true q xs found))
 
--- the nodes of a chain, the last first
+-- the nodes of a chain, the first first
 nodes : {E : ℕ → ℕ → Type 0} {n a b : ℕ} → Chain E n a b → List ℕ
 nodes {a = a} stay = a ∷ []
-nodes (step {c = c} chain edge) = c ∷ nodes chain
+nodes (step {c = c} chain edge) = nodes chain ++ c ∷ []
 
 many : {E : ℕ → ℕ → Type 0} {n a b : ℕ} (chain : Chain E n a b) → length (nodes chain) ≡ suc n
 unfolding nodes
 many stay = refl
-many (step chain edge) = ap suc (many chain)
+many (step {c = c} chain edge) = let long = length_push (nodes chain) c in let more = many chain in omega arith
 
 -- the end of a chain from one of its nodes
-from_node : {E : ℕ → ℕ → Type 0} {n a b : ℕ} (x : ℕ) (chain : Chain E n a b) → Has x (nodes chain) → (m : ℕ) × Chain E m x b
+from_node : {E : ℕ → ℕ → Type 0} {n a b : ℕ} (x : ℕ) (chain : Chain E n a b) → Contains (nodes chain) x → (m : ℕ) × Chain E m x b
 unfolding nodes
-from_node {E} {b = b} x stay (inl e) = (0, subst (λ (y : ℕ). Chain E 0 y b) (sym e) stay)
-from_node x stay (inr h) = absurd h
-from_node {E} {b = b} x (step chain edge) (inl e) = (0, subst (λ (y : ℕ). Chain E 0 y b) (sym e) stay)
-from_node x (step chain edge) (inr h) = let rest = from_node x chain h in (suc rest.0, step rest.1 edge)
+from_node {E} {b = b} x stay h = ⊎_elim (λ none. absurd (contains_none x none)) (λ e. (0, subst (λ (y : ℕ). Chain E 0 y b) e stay)) (Contains-push_cases [] b x h)
+from_node {E} {b = b} x (step {c = c} chain edge) h =
+    ⊎_elim
+    (λ k. let rest = from_node x chain k in (suc rest.0, step rest.1 edge))
+    (λ e. (0, subst (λ (y : ℕ). Chain E 0 y b) e stay))
+    (Contains-push_cases (nodes chain) c x h)
 
 -- a chain comes to one of its nodes again, or all of them differ
 round_or_apart : {E : ℕ → ℕ → Type 0} {n a b : ℕ} (chain : Chain E n a b) → (Circle E × ((m : ℕ) × ((n < m) × Chain E m a b))) ⊎ Apart (nodes chain)
 unfolding nodes
-round_or_apart stay = inr (λ h. h, tt)
+round_or_apart {a = a} stay = inr (apart_push [] a apart_none (contains_none a))
 round_or_apart {E} {a = a} (step {n = n} {b = b} {c = c} chain edge) =
     ⊎_elim
     (λ more. inl (more.0, (suc more.1.0, (let lt = more.1.1.0 in omega arith, step more.1.1.1 edge))))
-    (λ apart. ⊎_elim (λ h. inl (again h)) (λ none. inr (none, apart)) (has_or_not c (nodes chain)))
+    (λ apart. ⊎_elim (λ h. inl (again h)) (λ none. inr (apart_push (nodes chain) c apart none)) (contains_or_not (nodes chain) c))
     (round_or_apart chain)
   where
-    again : Has c (nodes chain) → Circle E × ((m : ℕ) × ((suc n < m) × Chain E m a c))
+    again : Contains (nodes chain) c → Circle E × ((m : ℕ) × ((suc n < m) × Chain E m a c))
     again h =
         let back = from_node c chain h in (
           record { node = c; edges = back.0; chain = step back.1 edge },
@@ -115,8 +74,8 @@ Within E n = (a b : ℕ) → E a b → (a < n) × (b < n)
 
 nodes_below : {E : ℕ → ℕ → Type 0} {m a b : ℕ} (n : ℕ) → Within E n → b < n → (chain : Chain E m a b) → AllBelow n (nodes chain)
 unfolding nodes
-nodes_below n within lt stay = (lt, tt)
-nodes_below n within lt (step {b = d} {c = c} chain edge) = (lt, nodes_below n within (within d c edge).0 chain)
+nodes_below {a = a} n within lt stay = All-push (λ x. x < n) [] a (All-nil (λ x. x < n)) lt
+nodes_below n within lt (step {b = d} {c = c} chain edge) = All-push (λ x. x < n) (nodes chain) c (nodes_below n within (within d c edge).0 chain) lt
 
 -- a chain of n edges between nodes below n goes round, so there is a longer one
 pub goes_round : {E : ℕ → ℕ → Type 0} (n a b : ℕ) → Within E n → b < n → Chain E n a b → Circle E × ((m : ℕ) × ((n < m) × Chain E m a b))

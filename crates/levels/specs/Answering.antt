@@ -17,4 +17,4 @@ abbrev pub Answers : List (List ℕ) → Result Levelled LevelsError → Type 0
 Answers g (Ok l) = Levels g (vec_items l.levels) × Ordered (vec_items l.levels) (vec_items l.order) × (vec_items l.order ≡ by_level (vec_items l.levels))
 Answers g (Err error.NoNode) = EdgesBelow (length g) g → ⊥
 Answers g (Err (error.Circle v)) = Round (Edge g) (vec_items v)
-Answers g (Err error.NoMemory) = Unit {0}
+Answers g (Err (error.NoMemory e)) = Unit {0}

@@ -1,14 +1,9 @@
 -- Chains and circles of a relation between nodes, and graphs by the direct predecessors of each node.
-use Rattle.std.specs.Prelude.{◌≡◌, ℕ, zero, suc, ◌+◌, ◌≤◌, max, ◌⊎◌, List, [], ◌∷◌, slice_index_or}
-
--- x stands in a list
-abbrev pub Has : {A : Type 0} → A → List A → Type 0
-Has x [] = ⊥
-Has x (y ∷ ys) = (x ≡ y) ⊎ Has x ys
+use Rattle.std.specs.Prelude.{◌≡◌, ℕ, zero, suc, ◌+◌, ◌≤◌, max, List, [], ◌∷◌, fold, Contains, slice_index_or}
 
 -- a directly precedes b
 abbrev pub Edge : List (List ℕ) → ℕ → ℕ → Type 0
-Edge g a b = Has a (slice_index_or g b [])
+Edge g a b = Contains (slice_index_or g b []) a
 
 -- so many edges lead from a to b
 pub data Chain (E : ℕ → ℕ → Type 0) : ℕ → ℕ → ℕ → Type 0 where
@@ -40,8 +35,7 @@ Round E (a ∷ b ∷ xs) = Leads E a (b ∷ xs) a
 
 -- one more than the most that f gives on a list, 0 of an empty one
 abbrev pub most : (ℕ → ℕ) → List ℕ → ℕ
-most f [] = 0
-most f (a ∷ xs) = max (f a + 1) (most f xs)
+most f xs = fold (λ best a. max best (f a + 1)) 0 xs
 
 -- the edges of the longest chain to b that has at most k
 abbrev pub longest : List (List ℕ) → ℕ → ℕ → ℕ

@@ -1,8 +1,9 @@
 // Levels of a graph: the longest chain to each node, or a circle.
 #![tactic(auto)]
 
-mod circle;
+mod chains;
 mod error;
+mod graph;
 mod level;
 mod order;
 

@@ -1,18 +1,20 @@
 -- Runs of digits and the numbers that they write.
-use Rattle.std.proofs.Common.{◌≡◌, ℕ, zero, suc, ◌+◌, ◌-◌, ◌*◌, ◌^◌, ◌<◌, ◌≤◌, true, ◌⊎◌, List, [], ◌∷◌, ◌++◌, length, get_or, take, drop, ℤ, pos, negsuc, decimal, sym, refl, ap, ◌∙◌, subst, inl, inr, ⊎_elim, add-zero, add-one, arith, take-append-drop}
+use Rattle.std.proofs.Common.{Option, None, Some, ◌≡◌, ℕ, zero, suc, ◌+◌, ◌-◌, ◌*◌, ◌^◌, ◌<◌, ◌≤◌, ◌⊎◌, List, [], ◌∷◌, ◌++◌, length, get_or, take, drop, ℤ, pos, negsuc, neg_ℤ, decimal, sym, refl, ap, ◌∙◌, subst, inl, inr, ⊎_elim, add-zero, add-one, arith, take-append-drop}
 use native.Mathlib.Nat.{pow-le-pow_right}
 use Rattle.std.specs.Str.Parse.{AllDigits, digits_value}
-use Rattle.std.specs.Char.{digit_value as digitValue, IsNotAsciiDigit}
+use Rattle.std.specs.Char.{digit_value, IsAsciiDigit, IsNotAsciiDigit}
+use Rattle.std.specs.List.{AllWithin, HoldsAt}
+use Rattle.std.specs.Option.{MatchOption, unwrap_or}
 use Rattle.std.specs.Int.{IsInRange}
 use Rattle.std.specs.Fmt.{signed_decimal}
 use Rattle.std.proofs.lemmas.Int.Digits.{digits_value_more, digits_value-lt}
 use Rattle.std.proofs.lemmas.Str.Parse.{digit_from_value, digit_at, IsNumeralModel, numerals_by_value, tells_digits}
 use Rattle.std.proofs.lemmas.Fmt.{decimal-digits_value, length-decimal-le, decimal_nonempty, first_decimal, decimal_injective, digits_decimal, decimal_digit}
-use Rattle.std.proofs.lemmas.List.{length-take-le, get_or-take, get_or-drop, drop_all, get_or_append_left}
+use Rattle.std.proofs.lemmas.List.{length-take-le, get_or-drop, drop_all, get_or_append_left}
 use Rattle.std.proofs.lemmas.Slice.{first_rest}
 use Rattle.std.proofs.lemmas.Bool.{cases_eq}
 use Rattle.lines.specs.Numbers.{Short, ShortZ, NumberText, NumbersAreDigits}
-use Rattle.lines.specs.Steps.{Stops, Run, NaturalAt, NoNatural, IntegerAt, NoInteger}
+use Rattle.lines.specs.Steps.{Stops, Run, NumberAt, NoNatural, NoInteger}
 
 own : IsNumeralModel (AllDigits 10) (digits_value 10)
 own = numerals_by_value (AllDigits 10) tells_digits
@@ -20,8 +22,8 @@ own = numerals_by_value (AllDigits 10) tells_digits
 tens : (k : ℕ) → k ≤ 19 → 10 ^ k ≤ 10 ^ 19
 tens k h = pow-le-pow_right {n = 10} (omega arith) h
 
-digit_value : (c : ℕ) → 48 ≤ c → c ≤ 57 → digitValue c ≡ c - 48
-digit_value c lo hi = grind arith
+digit_value-digit : (c : ℕ) → 48 ≤ c → c ≤ 57 → digit_value c ≡ c - 48
+digit_value-digit c lo hi = grind arith
 
 pub digits_take : (ds : List ℕ) (i : ℕ) → AllDigits 10 ds → AllDigits 10 (take i ds)
 digits_take [] zero h = tt
@@ -35,15 +37,16 @@ pub record Step (ds : List ℕ) (i : ℕ) : Type 0 where
   pub more : digits_value 10 (take i ds) * 10 + (get_or ds i 0 - 48) ≡ digits_value 10 (take (i + 1) ds)
   pub fits : digits_value 10 (take (i + 1) ds) < 10 ^ 19
 
-pub step : (ds : List ℕ) (i : ℕ) → AllDigits 10 ds → length ds ≤ 19 → i < length ds → Step ds i
-step ds i h few lt =
-    let here : IsInRange 48 57 (get_or ds i 0) = digit_at ds i h lt in
-    let bound = digits_value-lt 10 (take (i + 1) ds) (digits_take ds (i + 1) h) in
+pub step : (ds : List ℕ) (i : ℕ) → NumberText ds → i < length ds → Step ds i
+step ds i number lt =
+    let few = number.few in
+    let here : IsInRange 48 57 (get_or ds i 0) = digit_at ds i number.digits lt in
+    let bound = digits_value-lt 10 (take (i + 1) ds) (digits_take ds (i + 1) number.digits) in
     let long : length (take (i + 1) ds) ≡ i + 1 = length-take-le (i + 1) ds (omega arith) in
     let small : 10 ^ (i + 1) ≤ 10 ^ 19 = tens (i + 1) (omega arith) in
     record {
       low = here.0;
-      more = ap (λ x. digits_value 10 (take i ds) * 10 + x) (sym (digit_value _ here.0 here.1)) ∙ sym (digits_value_more 10 ds i lt);
+      more = ap (λ x. digits_value 10 (take i ds) * 10 + x) (sym (digit_value-digit _ here.0 here.1)) ∙ sym (digits_value_more 10 ds i lt);
       fits = let bound' : digits_value 10 (take (i + 1) ds) < 10 ^ (i + 1) = subst (λ (k : ℕ). digits_value 10 (take (i + 1) ds) < 10 ^ k) long bound in omega arith;
     }
 
@@ -62,24 +65,8 @@ one_cut (x ∷ ds) (y ∷ es) t u e hd he st su =
     let tails = one_cut ds es t u (ap (drop 1) e) hd.1 he.1 st su in
     (let first : x ≡ y = ap (λ l. get_or l 0 0) e in let rest = tails.0 in cc, tails.1)
 
-first_taken : (s : List ℕ) (n : ℕ) → 0 < n → get_or (take n s) 0 0 ≡ get_or s 0 0
-first_taken s n h = get_or-take n s 0 0 h
-
 short_64 : (n : ℕ) → Short n → n < 2 ^ 64
 short_64 n h = omega arith
-
-pub natural_some : (s : List ℕ) (len v : ℕ) → Run s len → 0 < len → len ≤ 19 → (get_or s 0 0 ≡ 48 → len ≤ 1) → v ≡ digits_value 10 (take len s) → NaturalAt s v len
-natural_some s len v run some few zeros is =
-    let long : length (take len s) ≡ len = length-take-le len s run.within in
-    let bound = digits_value-lt 10 (take len s) run.digits in
-    let bound' : digits_value 10 (take len s) < 10 ^ len = subst (λ (k : ℕ). digits_value 10 (take len s) < 10 ^ k) long bound in
-    let small : 10 ^ len ≤ 10 ^ 19 = tens len few in
-    record {
-      short = omega arith;
-      text = sym (ap decimal is ∙ decimal-digits_value own (take len s) run.digits (omega arith) (λ z. let one = zeros (sym (first_taken s len some) ∙ z) in omega arith) (omega arith));
-      stops = run.stops;
-      within = run.within;
-    }
 
 -- a short number's text, in the format's words
 pub number_text : (n : ℕ) → Short n → NumberText (decimal n)
@@ -111,25 +98,43 @@ pub run_is : (s : List ℕ) (len n : ℕ) (t : List ℕ) → Run s len → Short
 run_is s len n t run short stops is =
     one_cut (take len s) (decimal n) (drop len s) t (take-append-drop len s ∙ is) run.digits (number_text n short).digits run.stops stops
 
-pub natural_none : (s : List ℕ) (len : ℕ) → Run s len → ((0 < len) → (len ≤ 19) → (get_or s 0 0 ≡ 48 → len ≡ 1) → ⊥) → NoNatural s
-natural_none s len run bad n t short stops is =
-    let cut = run_is s len n t run short stops is in
-    let text = number_text n short in
-    let long : length (decimal n) ≡ len = sym (ap length cut.0) ∙ length-take-le len s run.within in
-    let some = text.some in
-    let few = text.few in
-    let pos : 0 < len = omega arith in
-    bad pos (omega arith) (λ z. sym long ∙ text.no_leading_zero (ap (λ l. get_or l 0 0) (sym cut.0) ∙ first_taken s len pos ∙ z))
+pub natural_none : (s : List ℕ) (len : ℕ) → Run s len → (NumberText (take len s) → ⊥) → NoNatural s
+natural_none s len run bad n t short stops is = bad (subst NumberText (sym (run_is s len n t run short stops is).0) (number_text n short))
 
-pub stops_at : (s : List ℕ) (n : ℕ) → IsNotAsciiDigit (get_or s n 0) → Stops (drop n s)
-stops_at s n other lo hi =
-    let here : get_or (drop n s) 0 0 ≡ get_or s n 0 = get_or-drop n s 0 0 ∙ ap (λ i. get_or s i 0) (add-zero n) in
-    absurd (⊎_elim (λ below. omega arith) (λ above. omega arith) other)
+pub natural_some : (s : List ℕ) (len n : ℕ) → Run s len → NumberText (take len s) → n ≡ digits_value 10 (take len s) → NumberAt s (pos n) (length (take len s))
+unfolding numbers_are_digits
+natural_some s len n run number is =
+    rw (is, length-take-le len s run.within) record {
+      short = (numbers_are_digits.reads (take len s) number).1.0;
+      text = (numbers_are_digits.reads (take len s) number).1.1;
+      stops = run.stops;
+      within = run.within;
+    }
 
-pub stops_past : (s : List ℕ) (n : ℕ) → length s ≤ n → Stops (drop n s)
-stops_past s n past lo hi =
-    let none : get_or (drop n s) 0 0 ≡ 0 = ap (λ l. get_or l 0 0) (drop_all n s past) in
-    absurd (omega arith)
+digits_upto : (s : List ℕ) (n : ℕ) → AllWithin IsAsciiDigit s 0 n → AllDigits 10 (take n s)
+digits_upto [] zero h = tt
+digits_upto [] (suc n) h = tt
+digits_upto (d ∷ ds) zero h = tt
+digits_upto (d ∷ ds) (suc n) h =
+    let here : IsAsciiDigit d = h 0 0 (omega arith) (omega arith) in
+    (let same = digit_value-digit d here.0 here.1 in omega arith, digits_upto ds n (λ k e lo hi. h (suc k) e (omega arith) (omega arith)))
+
+-- the digits before the first byte that is none
+pub run_upto : (s : List ℕ) (at : Option ℕ) → MatchOption at (AllWithin IsAsciiDigit s 0 (length s)) (λ i. (i < length s) × HoldsAt IsNotAsciiDigit s i × AllWithin IsAsciiDigit s 0 i) → Run s (unwrap_or at (length s))
+run_upto s None h =
+    record {
+      within = omega arith;
+      digits = digits_upto s (length s) h;
+      stops = λ lo hi. let none : get_or (drop (length s) s) 0 0 ≡ 0 = ap (λ l. get_or l 0 0) (drop_all (length s) s (omega arith)) in omega arith;
+    }
+run_upto s (Some n) h =
+    record {
+      within = omega arith;
+      digits = digits_upto s n h.2;
+      stops = λ lo hi.
+          let here : get_or (drop n s) 0 0 ≡ get_or s n 0 = get_or-drop n s 0 0 ∙ ap (λ i. get_or s i 0) (add-zero n) in
+          absurd (⊎_elim (λ below. omega arith) (λ above. omega arith) (h.1 0));
+    }
 
 -- a decimal that stops is read in one way
 pub decimal_one : (m n : ℕ) (t u : List ℕ) → Short m → Short n → Stops t → Stops u → decimal m ++ t ≡ decimal n ++ u → (m ≡ n) × (t ≡ u)
@@ -150,19 +155,18 @@ module _ (s r : List ℕ) (minus : s ≡ 45 ∷ r) where
   minus_none none (pos n) t short stops is = no_minus n t r short (sym minus ∙ is)
   minus_none none (negsuc n) t short stops is = none (suc n) t short stops (ap (drop 1) (sym minus ∙ is))
 
-  pub minus_zero : (len : ℕ) → NaturalAt r 0 len → NoInteger s
+  pub minus_zero : (len : ℕ) → NumberAt r (pos 0) len → NoInteger s
   minus_zero len here (pos n) t short stops is = no_minus n t r short (sym minus ∙ is)
   minus_zero len here (negsuc n) t short stops is =
       let whole = ap (λ l. l ++ drop len r) (sym here.text) ∙ take-append-drop len r ∙ ap (drop 1) (sym minus ∙ is) in
       let same = (decimal_one 0 (suc n) (drop len r) t here.short short here.stops stops whole).0 in
       omega arith
 
-  pub minus_some : (n len : ℕ) → NaturalAt r n len → (n ≡ 0 → ⊥) → IntegerAt s true n (len + 1)
-  minus_some zero len here some = absurd (some refl)
-  minus_some (suc n) len here some =
-      rw (minus, add-one) record {
+  pub minus_some : (n len : ℕ) (z : ℤ) → z ≡ neg_ℤ (pos n) → NumberAt r (pos n) len → (n ≡ 0 → ⊥) → NumberAt s z (len + 1)
+  minus_some zero len z is here some = absurd (some refl)
+  minus_some (suc n) len z is here some =
+      rw (is, minus, add-one) record {
         short = here.short;
-        no_minus_zero = λ _. omega arith;
         text = ap (λ l. 45 ∷ l) here.text;
         stops = here.stops;
         within = let w = here.within in omega arith;
@@ -180,8 +184,3 @@ signed_one (negsuc m) (negsuc n) t u sy sz st su is =
 -- a slice pattern's first byte and the rest that it binds
 pub front : (s : List ℕ) (b : ℕ) → 0 < length s → get_or s 0 0 ≡ b → s ≡ b ∷ take (length s - 1) (drop 1 s)
 front s b some is = first_rest s 0 some ∙ ap (λ x. x ∷ take (length s - 1) (drop 1 s)) is
-
-pub one_byte : (s : List ℕ) (b : ℕ) → length s ≡ 1 → get_or s 0 0 ≡ b → s ≡ b ∷ []
-one_byte [] b one is = absurd (omega arith)
-one_byte (x ∷ []) b one is = ap (λ y. y ∷ []) is
-one_byte (x ∷ y ∷ s) b one is = absurd (omega arith)

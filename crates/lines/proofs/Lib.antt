@@ -1,6 +1,5 @@
 pub mod Digits
-pub mod Entries
+pub mod Decoding
 pub mod Ranges
 pub mod Readings
 pub mod Rows
-pub mod Tokens

@@ -1,4 +1,4 @@
--- The marks that lines begin with, and where each may come.
+-- The marks that lines begin with.
 use Rattle.std.specs.Prelude.{◌≡◌, ℕ, List, take, codes}
 use Rattle.lines.specs.declared.mark.Mark.{Mark}
 use Rattle.lines.specs.declared.mark.Mark.TheVariants.{Reactor, Input, Output, Timer, Action, Connection, Reaction, Trigger, Write, Schedule, Stop, Bytecode, Instruction, Table, Row, Start, Offer, Advance}

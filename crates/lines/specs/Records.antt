@@ -1,5 +1,5 @@
 -- A record as a mark and the fields after it.
-use Rattle.std.specs.Prelude.{ℕ, List, [], ◌∷◌, ℤ, pos}
+use Rattle.std.specs.Prelude.{◌≡◌, ◌≢◌, ℕ, List, [], ◌∷◌, ℤ, pos, Result, MatchResult}
 use Rattle.lines.specs.Texts.{Entry}
 use Rattle.lines.specs.declared.mark.Mark.{Mark}
 use Rattle.lines.specs.declared.mark.Mark.TheVariants as mark
@@ -20,6 +20,8 @@ use Rattle.lines.specs.declared.records.Record.{Record}
 use Rattle.lines.specs.declared.records.Record.TheVariants.{Reactor, Input, Output, Timer, Action, Connection, Reaction, Trigger, Write, Schedule, Stop, Bytecode, Instruction, Table, Row, Start, Offer, Advance}
 use Rattle.lines.specs.declared.records.TriggerKind.{TriggerKind}
 use Rattle.lines.specs.declared.records.TriggerKind.TheVariants as trigger
+use Rattle.refusals.specs.declared.refusal.Refusal.{Refusal}
+use Rattle.refusals.specs.declared.refusal.Refusal.TheVariants.{OutOfRange}
 
 -- the numbers that stand for kinds
 abbrev pub action_code : ActionKind → ℕ
@@ -60,6 +62,10 @@ picker_code picker.Turn = 1
 abbrev pub queue_code : QueueKind → ℕ
 queue_code queue.Heap = 0
 queue_code queue.List = 1
+
+-- the result is the kind with this number, or a refusal where no kind has it
+abbrev pub Decodes : {K : Type 0} → (K → ℕ) → ℕ → Result K Refusal → Type 0
+Decodes code n r = MatchResult r (λ k. code k ≡ n) (λ e. (e ≡ OutOfRange) × ((k : _) → code k ≢ n))
 
 -- a field by its part of the line, its place and its number
 abbrev pub field : {T : Type 0} → (T → ℤ) → Field T → Entry

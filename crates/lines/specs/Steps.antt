@@ -1,14 +1,23 @@
 -- What the steps inside the reader promise each other; the contract of `read` cites none of it.
-use Rattle.std.specs.Prelude.{◌≡◌, ℕ, zero, suc, ◌+◌, ◌-◌, ◌<◌, ◌≤◌, Bool, true, false, List, [], ◌∷◌, ◌++◌, map, length, get_or, take, drop, ℤ, pos, neg_ℤ, decimal, ◌≢◌, slice_index, slice_index_or}
+use Rattle.std.specs.Prelude.{◌≡◌, ◌≢◌, ℕ, zero, suc, ◌+◌, ◌^◌, ◌≤◌, ◌<ℤ◌, List, [], ◌∷◌, ◌++◌, map, length, take, drop, ℤ, pos, decimal, slice_index, slice_index_or, unsigned_abs, Ok, Result}
 use Rattle.std.specs.Str.Parse.{AllDigits}
 use Rattle.std.specs.Fmt.{signed_decimal}
-use Rattle.lines.specs.Fields.{Written, Each, schema}
-use Rattle.lines.specs.Marks.{letters}
+use Rattle.std.specs.List.{AllByRecursion}
+use Rattle.lines.specs.Fields.{Written, Within, Each}
+use Rattle.lines.specs.Marks.{Begins}
 use Rattle.lines.specs.Numbers.{Short, ShortZ}
-use Rattle.lines.specs.Texts.{Entry, tail}
+use Rattle.lines.specs.Reading.{Reading}
+use Rattle.lines.specs.Sections.{MayCome}
+use Rattle.lines.specs.Texts.{Entry, entries, tail}
+use Rattle.lines.specs.declared.cursor.Cursor.{Cursor}
+use Rattle.lines.specs.declared.cursor.Token.{Token}
 use Rattle.lines.specs.declared.kind.Kind.{Kind}
 use Rattle.lines.specs.declared.mark.Mark.{Mark}
-use Rattle.lines.specs.declared.token.Token.{Token}
+use Rattle.lines.specs.declared.records.Field.{Field}
+use Rattle.lines.specs.declared.records.Record.{Record}
+use Rattle.lines.specs.declared.section.Section.{Section}
+use Rattle.refusals.specs.declared.refusal.Refusal.{Refusal}
+use Rattle.refusals.specs.declared.refusal.Refusal.TheVariants.{Malformed, OutOfRange}
 
 -- a text begins with no digit
 abbrev pub Stops : List ℕ → Type 0
@@ -21,9 +30,9 @@ pub record Run (s : List ℕ) (n : ℕ) : Type 0 where
   pub stops : Stops (drop n s)
 
 -- a number stands in front of s, and takes len bytes
-pub record NaturalAt (s : List ℕ) (n len : ℕ) : Type 0 where
-  pub short : Short n
-  pub text : take len s ≡ decimal n
+pub record NumberAt (s : List ℕ) (z : ℤ) (len : ℕ) : Type 0 where
+  pub short : ShortZ z
+  pub text : take len s ≡ signed_decimal z
   pub stops : Stops (drop len s)
   pub within : len ≤ length s
 
@@ -31,86 +40,82 @@ pub record NaturalAt (s : List ℕ) (n len : ℕ) : Type 0 where
 abbrev pub NoNatural : List ℕ → Type 0
 NoNatural s = (n : ℕ) (t : List ℕ) → Short n → Stops t → s ≢ decimal n ++ t
 
--- a number by its sign and its size
-abbrev pub integer : Bool → ℕ → ℤ
-integer false n = pos n
-integer true n = neg_ℤ (pos n)
-
--- a number with its sign stands in front of s, and takes len bytes
-pub record IntegerAt (s : List ℕ) (negative : Bool) (size len : ℕ) : Type 0 where
-  pub short : ShortZ (integer negative size)
-  pub no_minus_zero : negative ≡ true → 0 < size
-  pub text : take len s ≡ signed_decimal (integer negative size)
-  pub stops : Stops (drop len s)
-  pub within : len ≤ length s
-
 abbrev pub NoInteger : List ℕ → Type 0
 NoInteger s = (z : ℤ) (t : List ℕ) → ShortZ z → Stops t → s ≢ signed_decimal z ++ t
 
--- the first two bytes of a line are a mark's letters, and rest follows them
-pub record Front (line : List ℕ) (m : Mark) (rest : List ℕ) : Type 0 where
+-- a line begins with a mark
+pub record Front (line : List ℕ) (m : Mark) : Type 0 where
   pub long : 2 ≤ length line
-  pub first : get_or line 0 0 ≡ slice_index (letters m) 0
-  pub second : get_or line 1 0 ≡ slice_index (letters m) 1
-  pub after : rest ≡ take (length line - 2) (drop 2 line)
+  pub begins : Begins line m
 
--- where a field stands, without its bytes
-pub record Spot : Type 0 where
-  pub place : ℕ
-  pub len : ℕ
-  pub number : ℤ
+-- what is left of a line
+abbrev pub left : Cursor → List ℕ
+left c = drop c.place c.line.now
 
-abbrev pub spots : ℕ → List ℤ → List Spot
-spots at [] = []
-spots at (z ∷ zs) = record { place = at + 1; len = length (signed_decimal z); number = z } ∷ spots (at + 1 + length (signed_decimal z)) zs
-
-abbrev pub spot : Token → Spot
-spot t = record { place = t.place; len = t.len; number = integer t.negative t.size }
+-- a token's part lies in the line, and its number has at most 19 digits
+pub record Inside (line : List ℕ) (t : Token) : Type 0 where
+  pub part : t.place + t.len ≤ length line
+  pub short : t.number <ℤ pos (10 ^ 19)
 
 -- a token with its part of the line
 abbrev pub entry : List ℕ → Token → Entry
-entry line t = record { bytes = take t.len (drop t.place line); place = t.place; number = integer t.negative t.size }
-
--- a token's part lies in the line
-abbrev pub Inside : List ℕ → Token → Type 0
-Inside line t = t.place + t.len ≤ length line
+entry line t = record { bytes = take t.len (drop t.place line); place = t.place; number = t.number }
 
 abbrev pub numbers : List Token → List ℤ
-numbers ts = map (λ t. integer t.negative t.size) ts
+numbers ts = map (λ t. t.number) ts
+
+-- a field of this kind stands in front of what was left, after a space, and ends where the digits end
+pub record Takes (old : Cursor) (k : Kind) (t : Token) (new : Cursor) : Type 0 where
+  pub written : Written k t.number
+  pub bytes : take t.len (drop t.place old.line.now) ≡ signed_decimal t.number
+  pub place : t.place ≡ old.place + 1
+  pub split : left old ≡ 32 ∷ (signed_decimal t.number ++ left new)
+  pub stops : Stops (left new)
+  pub line : new.line.now ≡ old.line.now
+  pub next : new.place ≡ old.place + 1 + length (signed_decimal t.number)
+  pub inside : Inside old.line.now t
+
+abbrev pub NoField : List ℕ → Kind → Type 0
+NoField s k = (z : ℤ) (t : List ℕ) → Written k z → Stops t → s ≢ 32 ∷ (signed_decimal z ++ t)
+
+-- these are the fields of these kinds from a place on, in order, and nothing else follows
+pub record Row (line : List ℕ) (at : ℕ) (ks : List Kind) (ts : List Token) : Type 0 where
+  pub whole : drop at line ≡ tail (numbers ts)
+  pub written : Each Written ks (numbers ts)
+  pub placed : map (entry line) ts ≡ entries at (numbers ts)
+  pub inside : AllByRecursion (Inside line) ts
+
+abbrev pub NoRow : List ℕ → List Kind → Type 0
+NoRow s ks = (zs : List ℤ) → Each Written ks zs → s ≢ tail zs
 
 -- what an array of tokens is read as past its end
 abbrev pub blank : Token
-blank = record { place = 0; len = 0; negative = false; size = 0 }
-
--- the tokens past the first n say nothing
-abbrev pub BlankAfter : ℕ → List Token → Type 0
-BlankAfter n ts = (i : ℕ) → n ≤ i → slice_index_or ts i blank ≡ blank
+blank = record { place = 0; len = 0; number = pos 0 }
 
 -- the first tokens of an array, by their places in it
-abbrev pub listed : ℕ → ℕ → List Token → List Token
-listed i zero ts = []
-listed i (suc n) ts = slice_index_or ts i blank ∷ listed (i + 1) n ts
+abbrev pub listed_from : ℕ → ℕ → List Token → List Token
+listed_from i zero ts = []
+listed_from i (suc n) ts = slice_index_or ts i blank ∷ listed_from (i + 1) n ts
 
--- as many as the mark has fields
-abbrev pub row : Mark → List Token → List Token
-row m ts = listed 0 (length (schema m)) ts
+abbrev pub listed : ℕ → List Token → List Token
+listed n ts = listed_from 0 n ts
 
--- a field of this kind stands in front of s, after a space at this place, and ends where the digits end
-pub record TokenAt (s : List ℕ) (at : ℕ) (k : Kind) (t : Spot) : Type 0 where
-  pub written : Written k t.number
-  pub place : t.place ≡ at + 1
-  pub len : t.len ≡ length (signed_decimal t.number)
-  pub split : s ≡ 32 ∷ (signed_decimal t.number ++ drop (t.len + 1) s)
-  pub stops : Stops (drop (t.len + 1) s)
+-- the fields after a line's mark, with numbers in the ranges of their kinds
+pub record InRanges (line : List ℕ) (ks : List Kind) (ts : List Token) : Type 0 where
+  pub row : Row line 2 ks ts
+  pub within : Each Within ks (numbers ts)
 
-abbrev pub NoToken : List ℕ → Kind → Type 0
-NoToken s k = (z : ℤ) (t : List ℕ) → Written k z → Stops t → s ≢ 32 ∷ (signed_decimal z ++ t)
+-- why there are none
+pub data NotInRanges (line : List ℕ) (ks : List Kind) : Refusal → Type 0 where
+  malformed : NoRow (drop 2 line) ks → NotInRanges line ks Malformed
+  out_of_range : (zs : List ℤ) → drop 2 line ≡ tail zs → Each Written ks zs → (Each Within ks zs → ⊥) → NotInRanges line ks OutOfRange
 
--- these are the fields of these kinds, in order, and nothing else stands in rest
-pub record Tokens (rest : List ℕ) (ks : List Kind) (ts : List Token) : Type 0 where
-  pub whole : rest ≡ tail (numbers ts)
-  pub written : Each Written ks (numbers ts)
-  pub placed : map spot ts ≡ spots 2 (numbers ts)
+-- a field that stands at a token, and says what the token's number decodes to
+pub record DecodedAt {K : Type 0} (gives : ℕ → Result K Refusal → Type 0) (line : List ℕ) (t : Token) (f : Field K) : Type 0 where
+  pub text : f.text.now ≡ take t.len (drop t.place line)
+  pub place : f.place ≡ t.place
+  pub value : gives (unsigned_abs t.number) (Ok f.value)
 
-abbrev pub NoTokens : List ℕ → List Kind → Type 0
-NoTokens rest ks = (zs : List ℤ) → Each Written ks zs → rest ≢ tail zs
+-- what a line with this mark is read as, where the mark may come
+abbrev pub ReadAs : Mark → List ℕ → Result Record Refusal → Type 0
+ReadAs m line r = (section : Section) → MayCome section m → Reading section line r

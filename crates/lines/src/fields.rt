@@ -1,69 +1,57 @@
 // The fields of a line: each after one space, then a line feed.
-ghost use Rattle.std.specs.Prelude.{◌≡◌, ◌+◌, ◌^◌, ◌<◌, ◌≤◌, [], ◌∷◌, length, take, MatchBool, MatchOption, ◌≢◌};
-ghost use Rattle.lines.specs.Steps.{TokenAt, NoToken, Tokens, NoTokens, BlankAfter, spot};
+ghost use Rattle.std.specs.Prelude.{◌≡◌, ◌≤◌, length, drop, MatchOption, MatchResult, IsTrue, ◌↔◌};
+ghost use Rattle.lines.specs.Fields.{Within, Each};
+ghost use Rattle.lines.specs.Steps.{Row, NoRow, InRanges, NotInRanges, listed, numbers};
 
+use crate::cursor::{Cursor, Token};
 use crate::kind::Kind;
-use crate::number::{Integer, integer_in_front};
-use crate::token::Token;
+use refusals::Refusal;
 
-pub(crate) const MOST_FIELDS: usize = 5;
+// How many letters a mark has.
+const LETTERS: usize = 2;
 
-// The field in front, after a space that stands at `place` of the line.
-fn token_in_front(text: &[u8], place: usize, kind: Kind) -> Option<Token>
-    requires { place + length text.now < 2 ^ 64 }
-    ensures { MatchOption result (NoToken text.now kind) (λ t. TokenAt text.now place kind (spot t)) }
+// The fields of these kinds after a line's mark, where nothing else follows.
+fn tokens<const N: usize>(line: &[u8], kinds: &[Kind; N]) -> Option<[Token; N]>
+    requires { 2 ≤ length line.now }
+    ensures { MatchOption result (NoRow (drop 2 line.now) kinds.now) (Row line.now 2 kinds.now) }
 {
-    let [b' ', field @ ..] = text else {
-        return None;
+    let mut cursor = Cursor {
+        line,
+        place: LETTERS,
     };
-    let Integer {
-        negative,
-        size,
-        len,
-    } = integer_in_front(field)?;
-    if negative && !kind.may_be_negative() {
-        return None;
-    }
-    Some(Token {
-        place: place + 1,
-        len,
-        negative,
-        size,
-    })
-}
-
-fn is_line_feed(text: &[u8]) -> bool
-    ensures { MatchBool result (text.now ≡ 10 ∷ []) (text.now ≢ 10 ∷ []) }
-{
-    match text {
-        [b'\n'] => true,
-        _ => false,
-    }
-}
-
-// The fields of a line, one of each kind, from what follows the mark.
-pub(crate) fn tokens_in(rest: &[u8], kinds: &[Kind]) -> Option<[Token; MOST_FIELDS]>
-    requires { length kinds.now ≤ 5 }
-    ensures { MatchOption result (NoTokens rest.now kinds.now) (λ ts. Tokens rest.now kinds.now (take (length kinds.now) ts) × BlankAfter (length kinds.now) ts) }
-{
+    // `array::try_from_fn` does not promise what was made before its error, so a loop fills the array.
     let none = Token {
         place: 0,
         len: 0,
-        negative: false,
-        size: 0,
+        number: 0,
     };
-    let mut found = [none; MOST_FIELDS];
-    let mut left = rest;
-    let mut place = 2;
+    let mut found = [none; N];
     for (i, kind) in kinds.iter().enumerate() {
-        let token = token_in_front(left, place, *kind)?;
-        let taken = token.len + 1;
-        found[i] = token;
-        place += taken;
-        left = &left[taken..];
+        found[i] = cursor.next(*kind)?;
     }
-    if !is_line_feed(left) {
-        return None;
+    (cursor.rest() == b"\n".as_slice()).then_some(found)
+}
+
+fn all_within(kinds: &[Kind], tokens: &[Token]) -> bool
+    requires { length kinds.now ≡ length tokens.now }
+    ensures { IsTrue result ↔ Each Within kinds.now (numbers tokens.now) }
+{
+    kinds
+        .iter()
+        .zip(tokens)
+        .all(|(kind, token)| kind.takes(token.number))
+}
+
+// The same, with their numbers in range.
+pub(crate) fn fields<const N: usize>(line: &[u8], kinds: &[Kind; N]) -> Result<[Token; N], Refusal>
+    requires { 2 ≤ length line.now }
+    ensures { MatchResult result (λ ts. InRanges line.now kinds.now (listed N ts)) (NotInRanges line.now kinds.now) }
+{
+    let Some(tokens) = tokens(line, kinds) else {
+        return Err(Refusal::Malformed);
+    };
+    if !all_within(kinds, &tokens) {
+        return Err(Refusal::OutOfRange);
     }
-    Some(found)
+    Ok(tokens)
 }

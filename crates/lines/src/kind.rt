@@ -1,8 +1,8 @@
-// What stands in the fields after each mark.
-ghost use Rattle.std.specs.Prelude.{◌≡◌};
-ghost use Rattle.lines.specs.Fields.{schema, minus};
+// What stands in a field.
+ghost use Rattle.std.specs.Prelude.{◌≡◌, ◌↔◌, IsTrue};
+ghost use Rattle.lines.specs.Fields.{Within, minus};
 
-use crate::mark::Mark;
+const LAST_TIME: i128 = 1_000_000_000_000_000_000;
 
 #[derive(Clone, Copy)]
 pub(crate) enum Kind {
@@ -20,45 +20,18 @@ impl Kind {
     pub(crate) fn may_be_negative(self) -> bool
         ensures { result ≡ minus self }
     {
-        match self {
-            Kind::Value => true,
-            Kind::Number => false,
-            Kind::Time => false,
-            Kind::UpTo(_) => false,
-        }
+        matches!(self, Kind::Value)
     }
-}
 
-impl Mark {
-    // The kinds of the fields that follow the mark.
-    pub(crate) fn fields(self) -> &'static [Kind]
-        ensures { result.now ≡ schema self }
+    // Whether a number lies in the range of the kind.
+    pub(crate) fn takes(self, number: i128) -> bool
+        ensures { IsTrue result ↔ Within self number }
     {
         match self {
-            Mark::Reactor => &[],
-            Mark::Input => &[Kind::Number],
-            Mark::Output => &[Kind::Number],
-            Mark::Timer => &[Kind::Number, Kind::Time, Kind::Time],
-            Mark::Action => &[Kind::Number, Kind::UpTo(1), Kind::Time],
-            Mark::Connection => &[Kind::Number, Kind::Number, Kind::UpTo(1), Kind::Time],
-            Mark::Reaction => &[Kind::Number, Kind::UpTo(255)],
-            Mark::Trigger => &[Kind::Number, Kind::UpTo(3), Kind::Number],
-            Mark::Write => &[Kind::Number, Kind::Number],
-            Mark::Schedule => &[Kind::Number, Kind::Number],
-            Mark::Stop => &[Kind::Time],
-            Mark::Bytecode => &[],
-            Mark::Instruction => &[Kind::UpTo(9), Kind::UpTo(7), Kind::UpTo(7), Kind::Value],
-            Mark::Table => &[],
-            Mark::Row => &[
-                Kind::Value,
-                Kind::UpTo(2),
-                Kind::Value,
-                Kind::UpTo(7),
-                Kind::Value,
-            ],
-            Mark::Start => &[Kind::Number, Kind::UpTo(1), Kind::UpTo(1)],
-            Mark::Offer => &[Kind::Number, Kind::Time, Kind::Value],
-            Mark::Advance => &[Kind::Time, Kind::UpTo(1000)],
+            Kind::Number => number >= 0,
+            Kind::Time => (0..=LAST_TIME).contains(&number),
+            Kind::Value => (i128::from(i32::MIN)..=i128::from(i32::MAX)).contains(&number),
+            Kind::UpTo(most) => (0..=i128::from(most)).contains(&number),
         }
     }
 }

@@ -1,15 +1,19 @@
 #![tactic(auto)]
 
+mod bodies;
 mod build;
+mod codes;
+mod cursor;
+mod declarations;
 mod fields;
 mod kind;
 mod mark;
 mod number;
-mod range;
 mod reader;
 mod records;
+mod run;
 mod section;
-mod token;
+mod words;
 
 pub use reader::read;
 pub use records::{

@@ -26,29 +26,29 @@ pub(crate) enum Mark {
     Advance,
 }
 
-// The mark that a line begins with, and the rest of the line.
-pub(crate) fn mark_in_front(line: &[u8]) -> Option<(Mark, &[u8])>
-    ensures { MatchOption result ((m : AnyMark) → Begins line.now m → ⊥) (λ p. Front line.now p.0 p.1.now) }
+// The mark that a line begins with.
+pub(crate) fn mark_in_front(line: &[u8]) -> Option<Mark>
+    ensures { MatchOption result ((m : AnyMark) → Begins line.now m → ⊥) (Front line.now) }
 {
     match line {
-        [b'R', b'E', rest @ ..] => Some((Mark::Reactor, rest)),
-        [b'I', b'P', rest @ ..] => Some((Mark::Input, rest)),
-        [b'O', b'P', rest @ ..] => Some((Mark::Output, rest)),
-        [b'T', b'I', rest @ ..] => Some((Mark::Timer, rest)),
-        [b'A', b'C', rest @ ..] => Some((Mark::Action, rest)),
-        [b'C', b'N', rest @ ..] => Some((Mark::Connection, rest)),
-        [b'R', b'X', rest @ ..] => Some((Mark::Reaction, rest)),
-        [b'T', b'R', rest @ ..] => Some((Mark::Trigger, rest)),
-        [b'W', b'R', rest @ ..] => Some((Mark::Write, rest)),
-        [b'S', b'C', rest @ ..] => Some((Mark::Schedule, rest)),
-        [b'E', b'N', rest @ ..] => Some((Mark::Stop, rest)),
-        [b'B', b'O', rest @ ..] => Some((Mark::Bytecode, rest)),
-        [b'I', b'S', rest @ ..] => Some((Mark::Instruction, rest)),
-        [b'B', b'T', rest @ ..] => Some((Mark::Table, rest)),
-        [b'R', b'W', rest @ ..] => Some((Mark::Row, rest)),
-        [b'G', b'O', rest @ ..] => Some((Mark::Start, rest)),
-        [b'O', b'F', rest @ ..] => Some((Mark::Offer, rest)),
-        [b'A', b'D', rest @ ..] => Some((Mark::Advance, rest)),
+        [b'R', b'E', ..] => Some(Mark::Reactor),
+        [b'I', b'P', ..] => Some(Mark::Input),
+        [b'O', b'P', ..] => Some(Mark::Output),
+        [b'T', b'I', ..] => Some(Mark::Timer),
+        [b'A', b'C', ..] => Some(Mark::Action),
+        [b'C', b'N', ..] => Some(Mark::Connection),
+        [b'R', b'X', ..] => Some(Mark::Reaction),
+        [b'T', b'R', ..] => Some(Mark::Trigger),
+        [b'W', b'R', ..] => Some(Mark::Write),
+        [b'S', b'C', ..] => Some(Mark::Schedule),
+        [b'E', b'N', ..] => Some(Mark::Stop),
+        [b'B', b'O', ..] => Some(Mark::Bytecode),
+        [b'I', b'S', ..] => Some(Mark::Instruction),
+        [b'B', b'T', ..] => Some(Mark::Table),
+        [b'R', b'W', ..] => Some(Mark::Row),
+        [b'G', b'O', ..] => Some(Mark::Start),
+        [b'O', b'F', ..] => Some(Mark::Offer),
+        [b'A', b'D', ..] => Some(Mark::Advance),
         _ => None,
     }
 }

@@ -1,7 +1,8 @@
 // Numbers in a line, read from the front of a slice.
-ghost use Rattle.std.specs.Prelude.{◌≡◌, ◌≤◌, length, MatchOption};
+ghost use Rattle.std.specs.Prelude.{◌≡◌, ◌↔◌, pos, IsTrue, MatchOption};
 ghost use Rattle.std.specs.Str.Parse.{AllDigits, digits_value};
-ghost use Rattle.lines.specs.Steps.{Run, NaturalAt, NoNatural, IntegerAt, NoInteger};
+ghost use Rattle.lines.specs.Numbers.{NumberText};
+ghost use Rattle.lines.specs.Steps.{Run, NumberAt, NoNatural, NoInteger};
 
 const MOST_DIGITS: usize = 19;
 
@@ -9,17 +10,23 @@ const MOST_DIGITS: usize = 19;
 fn digits_in_front(text: &[u8]) -> usize
     ensures { Run text.now result }
 {
-    let mut n = 0;
-    while n < text.len() && text[n].is_ascii_digit() {
-        n += 1;
-    }
-    n
+    text.iter()
+        .position(|byte| !byte.is_ascii_digit())
+        .unwrap_or(text.len())
 }
 
-// The number that some digits write.
+// Whether digits are the text of a number: 1 to 19, the first of several no zero.
+fn is_number(digits: &[u8]) -> bool
+    requires { AllDigits 10 digits.now }
+    ensures { IsTrue result ↔ NumberText digits.now }
+{
+    (1..=MOST_DIGITS).contains(&digits.len()) && (digits.len() == 1 || digits[0] != b'0')
+}
+
+// The number that some digits write; in a `fold` the sum has no bound that is proved, and `parse` wants a text first.
+#[tactic(auto, using(crate::proofs::Digits::step))]
 fn number_of(digits: &[u8]) -> u64
-    requires few { length digits.now ≤ 19 }
-    requires digits { AllDigits 10 digits.now }
+    requires { NumberText digits.now }
     ensures { result ≡ digits_value 10 digits.now }
 {
     let mut n: u64 = 0;
@@ -29,59 +36,46 @@ fn number_of(digits: &[u8]) -> u64
     n
 }
 
+// A number, and how many bytes it takes.
 #[derive(Clone, Copy)]
-pub(crate) struct Natural {
-    pub(crate) value: u64,
-    // how many bytes its digits take
+pub(crate) struct Numeral<T> {
+    pub(crate) value: T,
     pub(crate) len: usize,
 }
 
 // The number in front, which ends where the digits end.
-pub(crate) fn natural_in_front(text: &[u8]) -> Option<Natural>
-    ensures { MatchOption result (NoNatural text.now) (λ n. NaturalAt text.now n.value n.len) }
+#[tactic(auto, using(crate::proofs::Digits::natural_none))]
+fn natural_in_front(text: &[u8]) -> Option<Numeral<u64>>
+    ensures { MatchOption result (NoNatural text.now) (λ n. NumberAt text.now (pos n.value) n.len) }
 {
-    let len = digits_in_front(text);
-    if len == 0 || len > MOST_DIGITS {
+    let digits = &text[..digits_in_front(text)];
+    if !is_number(digits) {
         return None;
     }
-    if len > 1 && text[0] == b'0' {
-        return None;
-    }
-    let value = number_of(&text[0..len]);
-    Some(Natural { value, len })
-}
-
-#[derive(Clone, Copy)]
-pub(crate) struct Integer {
-    pub(crate) negative: bool,
-    pub(crate) size: u64,
-    // how many bytes its sign and digits take
-    pub(crate) len: usize,
+    Some(Numeral {
+        value: number_of(digits),
+        len: digits.len(),
+    })
 }
 
 // The number in front with its sign; there is no `-0`.
-pub(crate) fn integer_in_front(text: &[u8]) -> Option<Integer>
-    ensures { MatchOption result (NoInteger text.now) (λ n. IntegerAt text.now n.negative n.size n.len) }
+pub(crate) fn integer_in_front(text: &[u8]) -> Option<Numeral<i128>>
+    ensures { MatchOption result (NoInteger text.now) (λ n. NumberAt text.now n.value n.len) }
 {
     match text {
         [b'-', rest @ ..] => {
-            let Natural { value, len } = natural_in_front(rest)?;
+            let Numeral { value, len } = natural_in_front(rest)?;
             if value == 0 {
                 return None;
             }
-            Some(Integer {
-                negative: true,
-                size: value,
+            Some(Numeral {
+                value: -i128::from(value),
                 len: len + 1,
             })
         }
-        _ => {
-            let Natural { value, len } = natural_in_front(text)?;
-            Some(Integer {
-                negative: false,
-                size: value,
-                len,
-            })
-        }
+        _ => natural_in_front(text).map(|Numeral { value, len }| Numeral {
+            value: i128::from(value),
+            len,
+        }),
     }
 }

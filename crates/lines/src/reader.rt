@@ -1,56 +1,52 @@
 // A line, read to its record.
 ghost use Rattle.std.specs.Prelude.{Err as Refused, MatchResult};
-ghost use Rattle.lines.specs.Steps.{Front};
+ghost use Rattle.lines.specs.Steps.{Front, ReadAs};
 ghost use Rattle.lines.specs.Numbers.{NumbersAreDigits};
 ghost use Rattle.lines.specs.Reading.{Reading, OneReading, OneAnswer};
 ghost use Rattle.lines.specs.Sections.{MayCome};
-ghost use Rattle.lines.specs.declared.section.Section.{Section as AnySection};
 
-use crate::build::record_of;
-use crate::fields::tokens_in;
 use crate::mark::{Mark, mark_in_front};
-use crate::range::{agree, all_within};
 use crate::records::Record;
 use crate::section::Section;
+use crate::{bodies, declarations, run};
 use refusals::Refusal;
 
-// The mark in front of a line, where it may come, and the rest of the line.
-fn mark_for(line: &[u8], section: Section) -> Result<(Mark, &[u8]), Refusal>
-    ensures { MatchResult result (λ p. MayCome section p.0 × Front line.now p.0 p.1.now) (λ e. Reading section line.now (Refused e)) }
+// The mark in front of a line, where it may come.
+fn mark_for(line: &[u8], section: Section) -> Result<Mark, Refusal>
+    ensures { MatchResult result (λ m. MayCome section m × Front line.now m) (λ e. Reading section line.now (Refused e)) }
 {
-    let Some((mark, rest)) = mark_in_front(line) else {
-        return Err(Refusal::UnknownMark);
-    };
-    if !section.takes(mark) {
-        return Err(Refusal::UnknownMark);
+    match mark_in_front(line) {
+        Some(mark) if section.takes(mark) => Ok(mark),
+        _ => Err(Refusal::UnknownMark),
     }
-    Ok((mark, rest))
 }
 
-// What follows a mark that may come.
-fn read_fields<'a>(line: &'a [u8], mark: Mark, rest: &[u8]) -> Result<Record<'a>, Refusal>
-    requires { Front line.now mark rest.now }
-    ensures { (section : AnySection) → MayCome section mark → Reading section line.now result }
+// The record of a line with a mark that may come.
+fn read_fields(line: &[u8], mark: Mark) -> Result<Record<'_>, Refusal>
+    requires { Front line.now mark }
+    ensures { ReadAs mark line.now result }
 {
-    let kinds = mark.fields();
-    let Some(tokens) = tokens_in(rest, kinds) else {
-        return Err(Refusal::Malformed);
-    };
-    if !all_within(kinds, &tokens) {
-        return Err(Refusal::OutOfRange);
+    match mark {
+        Mark::Reactor => declarations::reactor(line),
+        Mark::Input => declarations::input(line),
+        Mark::Output => declarations::output(line),
+        Mark::Timer => declarations::timer(line),
+        Mark::Action => declarations::action(line),
+        Mark::Connection => declarations::connection(line),
+        Mark::Reaction => declarations::reaction(line),
+        Mark::Trigger => declarations::trigger(line),
+        Mark::Write => declarations::write(line),
+        Mark::Schedule => declarations::schedule(line),
+        Mark::Stop => declarations::stop(line),
+        Mark::Bytecode => bodies::bytecode(line),
+        Mark::Instruction => bodies::instruction(line),
+        Mark::Table => bodies::table(line),
+        Mark::Row => bodies::row(line),
+        Mark::Start => run::start(line),
+        Mark::Offer => run::offer(line),
+        Mark::Advance => run::advance(line),
     }
-    if !agree(mark, &tokens) {
-        return Err(Refusal::OutOfRange);
-    }
-    Ok(record_of(line, mark, &tokens))
 }
-
-// The laws of lines, for the contract of `read`.
-fn laws()
-    ensures one_reading { OneReading }
-    ensures one_answer { OneAnswer }
-    ensures numbers_are_digits { NumbersAreDigits }
-{}
 
 // What a line says, or why it is refused, where only the marks of a section may come.
 pub fn read(line: &[u8], section: Section) -> Result<Record<'_>, Refusal>
@@ -59,7 +55,6 @@ pub fn read(line: &[u8], section: Section) -> Result<Record<'_>, Refusal>
     ensures one_answer { OneAnswer }
     ensures numbers_are_digits { NumbersAreDigits }
 {
-    laws();
-    let (mark, rest) = mark_for(line, section)?;
-    read_fields(line, mark, rest)
+    let mark = mark_for(line, section)?;
+    read_fields(line, mark)
 }

@@ -1,26 +1,26 @@
 // What a line says.
 
 // A field: its part of the caller's line, the place where that begins, and what it says.
-#[derive(Clone, Copy)]
+#[derive(Clone, Copy, Debug, PartialEq, Eq)]
 pub struct Field<'a, T> {
     pub text: &'a [u8],
     pub place: usize,
     pub value: T,
 }
 
-#[derive(Clone, Copy)]
+#[derive(Clone, Copy, Debug, PartialEq, Eq)]
 pub enum ActionKind {
     Logical,
     Physical,
 }
 
-#[derive(Clone, Copy)]
+#[derive(Clone, Copy, Debug, PartialEq, Eq)]
 pub enum ConnectionKind {
     Undelayed,
     Delayed,
 }
 
-#[derive(Clone, Copy)]
+#[derive(Clone, Copy, Debug, PartialEq, Eq)]
 pub enum TriggerKind {
     Input,
     Timer,
@@ -29,7 +29,7 @@ pub enum TriggerKind {
     ReadInput,
 }
 
-#[derive(Clone, Copy)]
+#[derive(Clone, Copy, Debug, PartialEq, Eq)]
 pub enum Opcode {
     End,
     Put,
@@ -43,26 +43,26 @@ pub enum Opcode {
     Schedule,
 }
 
-#[derive(Clone, Copy)]
+#[derive(Clone, Copy, Debug, PartialEq, Eq)]
 pub enum ReadingClass {
     Absent,
     AtMostZero,
     AboveZero,
 }
 
-#[derive(Clone, Copy)]
+#[derive(Clone, Copy, Debug, PartialEq, Eq)]
 pub enum PickerKind {
     Level,
     Turn,
 }
 
-#[derive(Clone, Copy)]
+#[derive(Clone, Copy, Debug, PartialEq, Eq)]
 pub enum QueueKind {
     Heap,
     List,
 }
 
-#[derive(Clone, Copy)]
+#[derive(Clone, Copy, Debug, PartialEq, Eq)]
 pub enum Record<'a> {
     Reactor,
     Input {

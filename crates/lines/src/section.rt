@@ -1,11 +1,11 @@
 // Where a line may stand.
-ghost use Rattle.std.specs.Prelude.{◌≡◌, Decides};
+ghost use Rattle.std.specs.Prelude.{◌≡◌, ◌↔◌, IsTrue};
 ghost use Rattle.lines.specs.Sections.{home, MayCome};
 
 use crate::mark::Mark;
 
 // The lines that a caller takes.
-#[derive(Clone, Copy, PartialEq, Eq)]
+#[derive(Clone, Copy, Debug, PartialEq, Eq)]
 pub enum Section {
     // what a network declares
     Network,
@@ -25,31 +25,28 @@ impl Mark {
         ensures { result ≡ home self }
     {
         match self {
-            Mark::Reactor => Section::Network,
-            Mark::Input => Section::Network,
-            Mark::Output => Section::Network,
-            Mark::Timer => Section::Network,
-            Mark::Action => Section::Network,
-            Mark::Connection => Section::Network,
-            Mark::Reaction => Section::Network,
-            Mark::Trigger => Section::Network,
-            Mark::Write => Section::Network,
-            Mark::Schedule => Section::Network,
-            Mark::Stop => Section::Network,
-            Mark::Bytecode => Section::Bytecode,
-            Mark::Instruction => Section::Bytecode,
-            Mark::Table => Section::Table,
-            Mark::Row => Section::Table,
+            Mark::Reactor
+            | Mark::Input
+            | Mark::Output
+            | Mark::Timer
+            | Mark::Action
+            | Mark::Connection
+            | Mark::Reaction
+            | Mark::Trigger
+            | Mark::Write
+            | Mark::Schedule
+            | Mark::Stop => Section::Network,
+            Mark::Bytecode | Mark::Instruction => Section::Bytecode,
+            Mark::Table | Mark::Row => Section::Table,
             Mark::Start => Section::Setup,
-            Mark::Offer => Section::Run,
-            Mark::Advance => Section::Run,
+            Mark::Offer | Mark::Advance => Section::Run,
         }
     }
 }
 
 impl Section {
     pub(crate) fn takes(self, mark: Mark) -> bool
-        ensures { Decides result (MayCome self mark) }
+        ensures { IsTrue result ↔ MayCome self mark }
     {
         let home = mark.section();
         match self {

@@ -1,3 +1,2 @@
 pub mod Acceptance
-pub mod Lookups
 pub mod Meanings

@@ -10,4 +10,4 @@ use Rattle.network.specs.declared.parts.Declaration.{Declaration}
 abbrev pub Added : Parts → Declaration → Result (Unit {0}) BuildError → Parts → Type 0
 Added from d (Ok u) to = (refusal from d ≡ None) × (to ≡ declare from d)
 Added from d (Err (Refused e)) to = (refusal from d ≡ Some e) × (to ≡ from)
-Added from d (Err NoMemory) to = (refusal from d ≡ None) × (to ≡ from)
+Added from d (Err (NoMemory e)) to = (refusal from d ≡ None) × (to ≡ from)

@@ -1,5 +1,6 @@
 -- What a list of lines declares, and what adding one more answers.
 use Rattle.std.specs.Prelude.{◌≡◌, ℕ, List, [], ◌∷◌, Some, None, Ok, Err, Result}
+use Rattle.std.specs.declared.alloc.AllocError.{AllocError}
 use Rattle.lines.specs.Reading.{Reading}
 use Rattle.lines.specs.declared.records.Record.{Record}
 use Rattle.lines.specs.declared.section.Section.TheVariants.{Network}
@@ -35,4 +36,4 @@ pub data Takes (from : Parts) (line : List ℕ) : Result (Unit {0}) BuildError �
   accepted : (d : Declaration) → Declares line d → refusal from d ≡ None → Takes from line (Ok tt) (declare from d)
   unread : (e : Refusal) → Reading Network line (Err e) → Takes from line (Err (Refused e)) from
   refused : (d : Declaration) (e : Refusal) → Declares line d → refusal from d ≡ Some e → Takes from line (Err (Refused e)) from
-  no_memory : (d : Declaration) → Declares line d → refusal from d ≡ None → Takes from line (Err NoMemory) from
+  no_memory : (d : Declaration) (e : AllocError) → Declares line d → refusal from d ≡ None → Takes from line (Err (NoMemory e)) from

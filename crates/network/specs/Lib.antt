@@ -1,7 +1,6 @@
 pub mod Adding
 pub mod Assembling
 pub mod Held
-pub mod Meaning
 pub mod Rules
 pub mod Saying
 pub mod Tables

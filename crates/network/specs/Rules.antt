@@ -1,5 +1,6 @@
 -- When a declaration is refused, given what was declared before it.
-use Rattle.std.specs.Prelude.{ℕ, Bool, true, false, cond, not, ◌&&◌, ◌||◌, List, map, length, is_some, Some, None, Option, ◌==◌, nat_le, slice_index, slice_index_or}
+use Rattle.std.specs.Prelude.{ℕ, Bool, true, false, cond, not, ◌&&◌, ◌||◌, List, map, length, count_by, is_some, Some, None, Option, ◌==◌, nat_le, slice_index, slice_index_or}
+use Rattle.std.specs.List.{list_any}
 use Rattle.lines.specs.declared.records.ActionKind.{ActionKind}
 use Rattle.lines.specs.declared.records.ActionKind.TheVariants.{Logical, Physical}
 use Rattle.lines.specs.declared.records.TriggerKind.{TriggerKind}
@@ -7,9 +8,7 @@ use Rattle.lines.specs.declared.records.TriggerKind.TheVariants as trigger
 use Rattle.lines.specs.Records.{trigger_code}
 use Rattle.refusals.specs.declared.refusal.Refusal.{Refusal}
 use Rattle.refusals.specs.declared.refusal.Refusal.TheVariants.{Undeclared, Foreign, Repeated, Full}
-use Rattle.rows.specs.Rows.{count, some}
 use Rattle.network.specs.Tables.{Parts}
-use Rattle.network.specs.declared.parts.Connection.{Connection}
 use Rattle.network.specs.declared.parts.Declaration.{Declaration}
 use Rattle.network.specs.declared.parts.Declaration.TheVariants as declaration
 use Rattle.network.specs.declared.parts.Target.{Target}
@@ -50,24 +49,17 @@ undeclared p (declaration.Trigger t) = missing t.reaction (length (homes p)) || 
 undeclared p (declaration.Target t) = missing t.reaction (length (homes p)) || missing t.number (length (holders p t.kind))
 undeclared p (declaration.Stop t) = false
 
-abbrev pub joins : ℕ → Connection → Bool
-joins i c = c.input == i
-
+-- the same trigger: its reaction, its kind and its source
 abbrev pub same_trigger : Trigger → Trigger → Bool
-same_trigger t u = (t.reaction == u.reaction && trigger_code t.kind == trigger_code u.kind) && t.source == u.source
-
-abbrev pub trigger_of : ℕ → Trigger → Bool
-trigger_of x t = t.reaction == x
+same_trigger t u = t.reaction == u.reaction && (trigger_code t.kind == trigger_code u.kind && t.source == u.source)
 
 abbrev pub target_code : TargetKind → ℕ
 target_code target.Output = 0
 target_code target.Action = 1
 
+-- the same target: its reaction, its kind and its number
 abbrev pub same_target : Target → Target → Bool
-same_target t u = (t.reaction == u.reaction && target_code t.kind == target_code u.kind) && t.number == u.number
-
-abbrev pub target_of : ℕ → Target → Bool
-target_of x t = t.reaction == x
+same_target t u = t.reaction == u.reaction && (target_code t.kind == target_code u.kind && t.number == u.number)
 
 abbrev pub physical : ActionKind → Bool
 physical Logical = false
@@ -98,10 +90,10 @@ repeated p (declaration.Input r) = false
 repeated p (declaration.Output r) = false
 repeated p (declaration.Timer t) = false
 repeated p (declaration.Action a) = false
-repeated p (declaration.Connection c) = some (joins c.input) p.connections
+repeated p (declaration.Connection c) = list_any (λ d. d.input == c.input) p.connections
 repeated p (declaration.Reaction x) = false
-repeated p (declaration.Trigger t) = some (same_trigger t) p.triggers
-repeated p (declaration.Target t) = some (same_target t) p.targets
+repeated p (declaration.Trigger t) = list_any (λ u. same_trigger u t) p.triggers
+repeated p (declaration.Target t) = list_any (λ u. same_target u t) p.targets
 repeated p (declaration.Stop t) = is_some p.stop
 
 -- its table is full
@@ -113,8 +105,8 @@ full p (declaration.Timer t) = nat_le 16 (length p.timers)
 full p (declaration.Action a) = nat_le 32 (length p.actions)
 full p (declaration.Connection c) = nat_le 64 (length p.connections)
 full p (declaration.Reaction x) = nat_le 64 (length p.reactions)
-full p (declaration.Trigger t) = nat_le 8 (count (trigger_of t.reaction) p.triggers)
-full p (declaration.Target t) = nat_le 8 (count (target_of t.reaction) p.targets)
+full p (declaration.Trigger t) = nat_le 8 (count_by (λ u. u.reaction == t.reaction) p.triggers)
+full p (declaration.Target t) = nat_le 8 (count_by (λ u. u.reaction == t.reaction) p.targets)
 full p (declaration.Stop t) = false
 
 -- whether there is a place for it

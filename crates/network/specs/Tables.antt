@@ -29,13 +29,13 @@ no_parts = record { reactors = 0; inputs = []; outputs = []; timers = []; action
 
 -- one thing more
 abbrev pub declare : Parts → Declaration → Parts
-declare p declaration.Reactor = record { reactors = p.reactors + 1; inputs = p.inputs; outputs = p.outputs; timers = p.timers; actions = p.actions; connections = p.connections; reactions = p.reactions; triggers = p.triggers; targets = p.targets; stop = p.stop }
-declare p (declaration.Input r) = record { reactors = p.reactors; inputs = p.inputs ++ r ∷ []; outputs = p.outputs; timers = p.timers; actions = p.actions; connections = p.connections; reactions = p.reactions; triggers = p.triggers; targets = p.targets; stop = p.stop }
-declare p (declaration.Output r) = record { reactors = p.reactors; inputs = p.inputs; outputs = p.outputs ++ r ∷ []; timers = p.timers; actions = p.actions; connections = p.connections; reactions = p.reactions; triggers = p.triggers; targets = p.targets; stop = p.stop }
-declare p (declaration.Timer t) = record { reactors = p.reactors; inputs = p.inputs; outputs = p.outputs; timers = p.timers ++ t ∷ []; actions = p.actions; connections = p.connections; reactions = p.reactions; triggers = p.triggers; targets = p.targets; stop = p.stop }
-declare p (declaration.Action a) = record { reactors = p.reactors; inputs = p.inputs; outputs = p.outputs; timers = p.timers; actions = p.actions ++ a ∷ []; connections = p.connections; reactions = p.reactions; triggers = p.triggers; targets = p.targets; stop = p.stop }
-declare p (declaration.Connection c) = record { reactors = p.reactors; inputs = p.inputs; outputs = p.outputs; timers = p.timers; actions = p.actions; connections = p.connections ++ c ∷ []; reactions = p.reactions; triggers = p.triggers; targets = p.targets; stop = p.stop }
-declare p (declaration.Reaction x) = record { reactors = p.reactors; inputs = p.inputs; outputs = p.outputs; timers = p.timers; actions = p.actions; connections = p.connections; reactions = p.reactions ++ x ∷ []; triggers = p.triggers; targets = p.targets; stop = p.stop }
-declare p (declaration.Trigger t) = record { reactors = p.reactors; inputs = p.inputs; outputs = p.outputs; timers = p.timers; actions = p.actions; connections = p.connections; reactions = p.reactions; triggers = p.triggers ++ t ∷ []; targets = p.targets; stop = p.stop }
-declare p (declaration.Target t) = record { reactors = p.reactors; inputs = p.inputs; outputs = p.outputs; timers = p.timers; actions = p.actions; connections = p.connections; reactions = p.reactions; triggers = p.triggers; targets = p.targets ++ t ∷ []; stop = p.stop }
-declare p (declaration.Stop t) = record { reactors = p.reactors; inputs = p.inputs; outputs = p.outputs; timers = p.timers; actions = p.actions; connections = p.connections; reactions = p.reactions; triggers = p.triggers; targets = p.targets; stop = Some t }
+declare p declaration.Reactor = record p { reactors = p.reactors + 1 }
+declare p (declaration.Input r) = record p { inputs = p.inputs ++ r ∷ [] }
+declare p (declaration.Output r) = record p { outputs = p.outputs ++ r ∷ [] }
+declare p (declaration.Timer t) = record p { timers = p.timers ++ t ∷ [] }
+declare p (declaration.Action a) = record p { actions = p.actions ++ a ∷ [] }
+declare p (declaration.Connection c) = record p { connections = p.connections ++ c ∷ [] }
+declare p (declaration.Reaction x) = record p { reactions = p.reactions ++ x ∷ [] }
+declare p (declaration.Trigger t) = record p { triggers = p.triggers ++ t ∷ [] }
+declare p (declaration.Target t) = record p { targets = p.targets ++ t ∷ [] }
+declare p (declaration.Stop t) = record p { stop = Some t }

@@ -3,7 +3,7 @@ use crate::parts::{Connection, Target, Trigger};
 use rows::Keyed;
 
 impl Keyed for Connection {
-    ghost has = { λ c. c.input };
+    ghost key_of = { λ c. c.input };
 
     fn key(&self) -> usize {
         self.input
@@ -11,7 +11,7 @@ impl Keyed for Connection {
 }
 
 impl Keyed for Trigger {
-    ghost has = { λ t. t.reaction };
+    ghost key_of = { λ t. t.reaction };
 
     fn key(&self) -> usize {
         self.reaction
@@ -19,7 +19,7 @@ impl Keyed for Trigger {
 }
 
 impl Keyed for Target {
-    ghost has = { λ t. t.reaction };
+    ghost key_of = { λ t. t.reaction };
 
     fn key(&self) -> usize {
         self.reaction

@@ -3,12 +3,11 @@
 
 mod add;
 mod assembly;
+mod checks;
 mod declared;
 mod keys;
 mod lookup;
-mod owned;
 mod parts;
-mod same;
 mod tables;
 
 pub use assembly::Assembly;

@@ -10,11 +10,10 @@ use Rattle.refusals.specs.declared.refusal.Refusal.{Refusal}
 use Rattle.refusals.specs.declared.refusal.Refusal.TheVariants.{UnknownMark, Malformed}
 use Rattle.lines.specs.declared.section.Section.{Section}
 use Rattle.lines.specs.declared.section.Section.TheVariants.{Run}
-use Rattle.outline.specs.Counting.{counters, counted, Orphan}
+use Rattle.outline.specs.Counting.{counted, IsOrphan}
 use Rattle.outline.specs.declared.counts.Counts.{Counts}
+use Rattle.outline.specs.declared.declared.Declared.{Declared}
 use Rattle.outline.specs.declared.progress.Progress.{Progress}
-use Rattle.outline.specs.declared.told.Told.{Told}
-use Rattle.outline.specs.declared.told.Told.TheVariants.{Declared, Refused}
 
 -- a record leads from one section to the other: the start to the run, and any other nowhere
 pub record Leads (from : Section) (r : Record) (to : Section) : Type 0 where
@@ -23,12 +22,18 @@ pub record Leads (from : Section) (r : Record) (to : Section) : Type 0 where
 
 -- the answer for a line where it stands: as it reads, but an orphan is malformed where its mark may come
 pub data Here (section : Section) (counts : Counts) (line : List ℕ) : Result Record Refusal → Type 0 where
-  as_read : (answer : Result Record Refusal) → Reading section line answer → (Orphan counts line → ⊥) → Here section counts line answer
+  as_read : (answer : Result Record Refusal) → Reading section line answer → (IsOrphan counts line → ⊥) → Here section counts line answer
   no_mark : Reading section line (Err UnknownMark) → Here section counts line (Err UnknownMark)
-  orphan : Orphan counts line → (Reading section line (Err UnknownMark) → ⊥) → Here section counts line (Err Malformed)
+  orphan : IsOrphan counts line → (Reading section line (Err UnknownMark) → ⊥) → Here section counts line (Err Malformed)
 
--- a record is told with what was counted before it, and is counted; a refused line changes nothing
-abbrev pub Tells : Progress → List ℕ → Progress → Told → Type 0
-Tells from line to (Declared r before) =
-    Here from.section from.counts line (Ok r) × (before ≡ from.counts) × (counters to.counts ≡ counted r (counters from.counts)) × Leads from.section r to.section
-Tells from line to (Refused e) = Here from.section from.counts line (Err e) × (to ≡ from)
+-- a record is told with what was counted before it, and is counted
+pub record Declares (from : Progress) (line : List ℕ) (d : Declared) (to : Progress) : Type 0 where
+  pub read : Here from.section from.counts line (Ok d.record)
+  pub before : d.before ≡ from.counts
+  pub counts : to.counts ≡ counted d.record from.counts
+  pub section : Leads from.section d.record to.section
+
+-- what is told of a line; a refused line changes nothing
+abbrev pub Tells : Progress → List ℕ → Progress → Result Declared Refusal → Type 0
+Tells from line to (Ok d) = Declares from line d to
+Tells from line to (Err e) = Here from.section from.counts line (Err e) × (to ≡ from)

@@ -1,10 +1,10 @@
 // How many things of each sort were declared.
-ghost use Rattle.std.specs.Prelude.{◌≡◌, replicate, MatchBool};
-ghost use Rattle.outline.specs.Counting.{up, counters, counted, Orphan};
+ghost use Rattle.std.specs.Prelude.{◌≡◌, ◌↔◌, IsTrue};
+ghost use Rattle.outline.specs.Counting.{up, counted, IsOrphan};
 
 use lines::Record;
 
-#[derive(Clone, Copy)]
+#[derive(Clone, Copy, Debug, Default, PartialEq, Eq)]
 pub struct Counts {
     pub reactors: u64,
     pub inputs: u64,
@@ -28,27 +28,9 @@ fn raise(counter: &mut u64)
 }
 
 impl Counts {
-    pub(crate) fn new() -> Counts
-        ensures { counters result ≡ replicate 11 0 }
-    {
-        Counts {
-            reactors: 0,
-            inputs: 0,
-            outputs: 0,
-            timers: 0,
-            actions: 0,
-            connections: 0,
-            reactions: 0,
-            bodies: 0,
-            instructions: 0,
-            tables: 0,
-            rows: 0,
-        }
-    }
-
     // Counts one thing more.
     pub(crate) fn count(&mut self, record: Record<'_>)
-        ensures { counters self.new ≡ counted «record».entry (counters self.old) }
+        ensures { self.new ≡ counted «record».entry self.old }
     {
         match record {
             Record::Reactor => raise(&mut self.reactors),
@@ -68,20 +50,15 @@ impl Counts {
                 self.rows = 0;
             }
             Record::Row { .. } => raise(&mut self.rows),
-            Record::Trigger { .. } | Record::Write { .. } | Record::Schedule { .. } => {}
-            Record::Stop { .. } | Record::Start { .. } => {}
-            Record::Offer { .. } | Record::Advance { .. } => {}
+            _ => {}
         }
     }
 
     // Whether a line is an instruction or a row that has no body to belong to.
     pub(crate) fn is_orphan(&self, line: &[u8]) -> bool
-        ensures { MatchBool result (Orphan self.now line.now) (Orphan self.now line.now → ⊥) }
+        ensures { IsTrue result ↔ IsOrphan self.now line.now }
     {
-        match line {
-            [b'I', b'S', ..] => self.bodies == 0,
-            [b'R', b'W', ..] => self.tables == 0,
-            _ => false,
-        }
+        (line.starts_with(b"IS") && self.bodies == 0)
+            || (line.starts_with(b"RW") && self.tables == 0)
     }
 }

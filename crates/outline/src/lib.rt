@@ -2,9 +2,9 @@
 #![tactic(auto)]
 
 mod counts;
+mod declared;
 mod progress;
-mod told;
 
 pub use counts::Counts;
+pub use declared::Declared;
 pub use progress::Progress;
-pub use told::Told;

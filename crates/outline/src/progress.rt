@@ -1,36 +1,28 @@
 // How far the lines have come: what may come next, and what was declared.
-ghost use Rattle.std.specs.Prelude.{◌≡◌, replicate};
+ghost use Rattle.std.specs.Prelude.{◌≡◌};
 ghost use Rattle.lines.specs.declared.section.Section.TheVariants.{Setup};
-ghost use Rattle.outline.specs.Counting.{counters};
-ghost use Rattle.outline.specs.Telling.{Leads, Here, Tells};
+ghost use Rattle.outline.specs.Counting.{no_counts};
+ghost use Rattle.outline.specs.Telling.{Here, Tells};
 
 use crate::counts::Counts;
-use crate::told::Told;
+use crate::declared::Declared;
 use lines::{Record, Section, read};
 use refusals::Refusal;
 
-#[derive(Clone, Copy)]
+#[derive(Clone, Copy, Debug, PartialEq, Eq)]
 pub struct Progress {
     section: Section,
     counts: Counts,
 }
 
-fn section_after(section: Section, record: Record<'_>) -> Section
-    ensures { Leads section «record».entry result }
-{
-    match record {
-        Record::Start { .. } => Section::Run,
-        _ => section,
-    }
-}
-
 impl Progress {
     pub fn new() -> Progress
-        ensures { (result.section ≡ Setup) × (counters result.counts ≡ replicate 11 0) }
+        ensures at_the_start { result.section ≡ Setup }
+        ensures nothing_counted { result.counts ≡ no_counts }
     {
         Progress {
             section: Section::Setup,
-            counts: Counts::new(),
+            counts: Counts::default(),
         }
     }
 
@@ -39,27 +31,23 @@ impl Progress {
         ensures { Here self.now.section self.now.counts line.now result }
     {
         let answer = read(line, self.section);
-        if !self.counts.is_orphan(line) {
-            return answer;
-        }
         match answer {
-            Err(Refusal::UnknownMark) => Err(Refusal::UnknownMark),
-            _ => Err(Refusal::Malformed),
+            Err(Refusal::UnknownMark) => answer,
+            _ if self.counts.is_orphan(line) => Err(Refusal::Malformed),
+            _ => answer,
         }
     }
 
-    // What is to be said of the next line.
-    pub fn tell<'a>(&mut self, line: &'a [u8]) -> Told<'a>
+    // What the next line declares, or why it is refused; a refused line changes nothing.
+    pub fn tell<'a>(&mut self, line: &'a [u8]) -> Result<Declared<'a>, Refusal>
         ensures { Tells self.old line.now self.new result }
     {
-        match self.read_here(line) {
-            Ok(record) => {
-                let before = self.counts;
-                self.counts.count(record);
-                self.section = section_after(self.section, record);
-                Told::Declared { record, before }
-            }
-            Err(refusal) => Told::Refused(refusal),
+        let record = self.read_here(line)?;
+        let before = self.counts;
+        self.counts.count(record);
+        if let Record::Start { .. } = record {
+            self.section = Section::Run;
         }
+        Ok(Declared { record, before })
     }
 }

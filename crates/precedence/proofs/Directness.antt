@@ -1,10 +1,12 @@
 -- The tests of precedence say what directly precedes what.
-use Rattle.std.proofs.Common.{◌≡◌, ℕ, zero, suc, ◌+◌, ◌<◌, ◌≤◌, Bool, true, false, cond, ◌&&◌, ◌||◌, eqb, ◌⊎◌, List, [], ◌∷◌, map, length, get_or, filter, sym, refl, ap, ◌∙◌, subst, inl, inr, ⊎_elim, arith}
-use Rattle.std.specs.List.{range_with_len}
+use Rattle.std.proofs.Common.{◌≡◌, ℕ, ◌+◌, ◌<◌, ◌≤◌, Bool, true, false, ◌&&◌, eqb, ◌⊎◌, List, [], map, length, get_or, filter, Contains, sym, refl, ap, ◌∙◌, subst, inl, inr, ⊎_elim, arith}
+use Rattle.std.specs.List.{list_any, range_with_len}
 use Rattle.std.proofs.lemmas.List.FromFn.{get_or-map-range_with_len, length-map-range_with_len}
 use Rattle.std.proofs.lemmas.List.{get_or_past}
-use Rattle.std.proofs.lemmas.Bool.{cases_eq, cases_lt, lt-ltb, ltb-true, eqb-true, eq-eqb}
-use Rattle.levels.specs.Chains.{Has, Edge}
+use Rattle.std.proofs.lemmas.Bool.{and_from, and_parts, or_cases, or_left, or_right, cases_lt, lt-ltb, ltb-true, eqb-true, eq-eqb}
+use Rattle.std.proofs.lemmas.List.Folds.{Any-from_list_any, list_any_at}
+use Rattle.levels.specs.Chains.{Edge}
+use Rattle.levels.proofs.Members.{contains_counted, contains_kept, contains_none, counted_contains, kept_contains}
 use Rattle.lines.specs.declared.records.ConnectionKind.{ConnectionKind}
 use Rattle.lines.specs.declared.records.ConnectionKind.TheVariants.{Undelayed, Delayed}
 use Rattle.lines.specs.declared.records.TriggerKind.{TriggerKind}
@@ -15,125 +17,71 @@ use Rattle.network.specs.declared.parts.Target.{Target}
 use Rattle.network.specs.declared.parts.TargetKind.{TargetKind}
 use Rattle.network.specs.declared.parts.TargetKind.TheVariants as target
 use Rattle.network.specs.declared.parts.Trigger.{Trigger}
-use Rattle.rows.specs.Rows.{some, with_key}
 use Rattle.precedence.specs.Direct.{MaySet, JoinedUndelayed, TakesIn, Directly, same_reactor, joined}
 use Rattle.precedence.specs.Tests.{sets, is_output, without_delay, undelayed, is_input, takes_input, readings_of, targets_of, joinings_of, all_readings, all_targets, all_joinings, fed, reached, precedes, predecessors, graph}
 
--- what a conjunction or a disjunction of tests says
-both : (a b : Bool) → (a && b) ≡ true → (a ≡ true) × (b ≡ true)
-both true b e = (refl, e)
-both false b e = absurd (let z : ◌≡◌ {A = ℕ} 0 1 = cc in omega arith)
+-- some element passes a test exactly if one stands there that does
+some_has : {A : Type 0} (f : A → Bool) (xs : List A) → list_any f xs ≡ true → (x : A) × (Contains xs x × (f x ≡ true))
+some_has f xs e = let one = Any-from_list_any f xs e in (one.1, ((one.0, one.2, one.3), one.4))
 
-and_true : (a b : Bool) → a ≡ true → b ≡ true → (a && b) ≡ true
-and_true a b e f = ap (λ t. t && b) e ∙ f
-
-either : (a b : Bool) → (a || b) ≡ true → (a ≡ true) ⊎ (b ≡ true)
-either true b e = inl refl
-either false b e = inr e
-
-or_left : (a b : Bool) → a ≡ true → (a || b) ≡ true
-or_left a b e = ap (λ t. t || b) e
-
-or_right : (a b : Bool) → b ≡ true → (a || b) ≡ true
-or_right true b e = refl
-or_right false b e = e
-
-module _ {A : Type 0} where
-  -- some row is wanted exactly if one stands there that is
-  some_has : (f : A → Bool) (xs : List A) → some f xs ≡ true → (x : A) × (Has x xs × (f x ≡ true))
-  some_has f [] e = absurd (let z : ◌≡◌ {A = ℕ} 0 1 = cc in omega arith)
-  some_has f (x ∷ xs) e = ⊎_elim (λ is. (x, (inl refl, is))) (λ more. let rest = some_has f xs more in (rest.0, (inr rest.1.0, rest.1.1))) (either (f x) (some f xs) e)
-
-  has_some : (f : A → Bool) (x : A) (xs : List A) → Has x xs → f x ≡ true → some f xs ≡ true
-  has_some f x [] h e = absurd h
-  has_some f x (y ∷ ys) (inl is) e = or_left (f y) (some f ys) (sym (ap f is) ∙ e)
-  has_some f x (y ∷ ys) (inr h) e = or_right (f y) (some f ys) (has_some f x ys h e)
-
-  -- what a filter keeps
-  kept_has : (f : A → Bool) (x : A) (xs : List A) → Has x (filter f xs) → Has x xs × (f x ≡ true)
-  kept_has f x [] h = absurd h
-  kept_has f x (y ∷ ys) h = go (f y) refl (kept_has f x ys) h
-    where
-      go : (b : Bool) → f y ≡ b → (Has x (filter f ys) → Has x ys × (f x ≡ true)) → Has x (cond b (y ∷ filter f ys) (filter f ys)) → Has x (y ∷ ys) × (f x ≡ true)
-      go true is more (inl e) = (inl e, ap f e ∙ is)
-      go true is more (inr k) = (inr (more k).0, (more k).1)
-      go false is more k = (inr (more k).0, (more k).1)
-
-  has_kept : (f : A → Bool) (x : A) (xs : List A) → Has x xs → f x ≡ true → Has x (filter f xs)
-  has_kept f x [] h e = absurd h
-  has_kept f x (y ∷ ys) h e = go (f y) refl h (λ k. has_kept f x ys k e)
-    where
-      go : (b : Bool) → f y ≡ b → Has x (y ∷ ys) → (Has x ys → Has x (filter f ys)) → Has x (cond b (y ∷ filter f ys) (filter f ys))
-      go true is (inl same) more = inl same
-      go true is (inr k) more = inr (more k)
-      go false is (inl same) more = absurd (let z : true ≡ false = sym e ∙ ap f same ∙ is in let y : ◌≡◌ {A = ℕ} 0 1 = cc in omega arith)
-      go false is (inr k) more = more k
-
--- numbers from a on
-counting_has : (x a n : ℕ) → Has x (range_with_len a n) → (a ≤ x) × (x < a + n)
-counting_has x a zero h = absurd h
-counting_has x a (suc n) (inl e) = (omega arith, omega arith)
-counting_has x a (suc n) (inr h) = let rest = counting_has x (a + 1) n h in (let lo = rest.0 in omega arith, let hi = rest.1 in omega arith)
-
-has_counting : (x a n : ℕ) → a ≤ x → x < a + n → Has x (range_with_len a n)
-has_counting x a zero lo hi = absurd (omega arith)
-has_counting x a (suc n) lo hi = ⊎_elim (λ e. inl e) (λ ne. inr (has_counting x (a + 1) n (omega arith) (omega arith))) (cases_eq x a)
+has_some : {A : Type 0} (f : A → Bool) (x : A) (xs : List A) → Contains xs x → f x ≡ true → list_any f xs ≡ true
+has_some f x xs h e = list_any_at f xs h.0 x h.1 (ap f h.2 ∙ e)
 
 -- the rows with a key
-keyed_has : {A : Type 0} (key : A → ℕ) (k : ℕ) (x : A) (xs : List A) → Has x (with_key key k xs) → Has x xs × (key x ≡ k)
-keyed_has key k x xs h = let found = kept_has (λ row. eqb (key row) k) x xs h in (found.0, eqb-true (key x) k found.1)
+keyed_has : {A : Type 0} (key : A → ℕ) (k : ℕ) (x : A) (xs : List A) → Contains (filter (λ row. eqb (key row) k) xs) x → Contains xs x × (key x ≡ k)
+keyed_has key k x xs h = let found = kept_contains (λ row. eqb (key row) k) xs x h in (found.0, eqb-true (key x) k found.1)
 
-has_keyed : {A : Type 0} (key : A → ℕ) (k : ℕ) (x : A) (xs : List A) → Has x xs → key x ≡ k → Has x (with_key key k xs)
-has_keyed key k x xs h e = has_kept (λ row. eqb (key row) k) x xs h (eq-eqb (key x) k e)
+has_keyed : {A : Type 0} (key : A → ℕ) (k : ℕ) (x : A) (xs : List A) → Contains xs x → key x ≡ k → Contains (filter (λ row. eqb (key row) k) xs) x
+has_keyed key k x xs h e = contains_kept (λ row. eqb (key row) k) xs x h (eq-eqb (key x) k e)
 
 output_kind : (k : TargetKind) → is_output k ≡ true → k ≡ target.Output
 output_kind target.Output e = refl
-output_kind target.Action e = absurd (let z : ◌≡◌ {A = ℕ} 0 1 = cc in omega arith)
+output_kind target.Action e = absurd cc
 
 undelayed_kind : (k : ConnectionKind) → without_delay k ≡ true → k ≡ Undelayed
 undelayed_kind Undelayed e = refl
-undelayed_kind Delayed e = absurd (let z : ◌≡◌ {A = ℕ} 0 1 = cc in omega arith)
+undelayed_kind Delayed e = absurd cc
 
 input_kind : (k : TriggerKind) → is_input k ≡ true → (k ≡ trigger.Input) ⊎ (k ≡ trigger.ReadInput)
 input_kind trigger.Input e = inl refl
-input_kind trigger.Timer e = absurd (let z : ◌≡◌ {A = ℕ} 0 1 = cc in omega arith)
-input_kind trigger.Action e = absurd (let z : ◌≡◌ {A = ℕ} 0 1 = cc in omega arith)
+input_kind trigger.Timer e = absurd cc
+input_kind trigger.Action e = absurd cc
 input_kind trigger.ReadInput e = inr refl
 
 module _ (p : Parts) where
-  sets_may : (a o : ℕ) → some (sets o) (targets_of p a) ≡ true → MaySet p a o
+  sets_may : (a o : ℕ) → list_any (sets o) (targets_of p a) ≡ true → MaySet p a o
   sets_may a o e =
       let found = some_has (sets o) (targets_of p a) e in
       let t = found.0 in
       let row = keyed_has (λ t. t.reaction) a t p.targets found.1.0 in
-      let test = both _ _ found.1.1 in
-      subst (λ (u : Target). Has u p.targets) (λ i. record { reaction = row.1 i; kind = output_kind t.kind test.0 i; number = eqb-true t.number o test.1 i }) row.0
+      let test = and_parts _ _ found.1.1 in
+      subst (λ (u : Target). Contains p.targets u) (λ i. record { reaction = row.1 i; kind = output_kind t.kind test.0 i; number = eqb-true t.number o test.1 i }) row.0
 
-  may_sets : (a o : ℕ) → MaySet p a o → some (sets o) (targets_of p a) ≡ true
-  may_sets a o h = has_some (sets o) _ (targets_of p a) (has_keyed (λ t. t.reaction) a _ p.targets h refl) (and_true true _ refl (eq-eqb o o refl))
+  may_sets : (a o : ℕ) → MaySet p a o → list_any (sets o) (targets_of p a) ≡ true
+  may_sets a o h = has_some (sets o) _ (targets_of p a) (has_keyed (λ t. t.reaction) a _ p.targets h refl) (and_from true _ refl (eq-eqb o o refl))
 
-  takes_in : (b : ℕ) (t : Trigger) → Has t (readings_of p b) → takes_input t ≡ true → TakesIn p b t.source
+  takes_in : (b : ℕ) (t : Trigger) → Contains (readings_of p b) t → takes_input t ≡ true → TakesIn p b t.source
   takes_in b t h e =
       let row = keyed_has (λ t. t.reaction) b t p.triggers h in
       ⊎_elim
-      (λ is. inl (subst (λ (u : Trigger). Has u p.triggers) (λ i. record { reaction = row.1 i; kind = is i; source = t.source }) row.0))
-      (λ is. inr (subst (λ (u : Trigger). Has u p.triggers) (λ i. record { reaction = row.1 i; kind = is i; source = t.source }) row.0))
+      (λ is. inl (subst (λ (u : Trigger). Contains p.triggers u) (λ i. record { reaction = row.1 i; kind = is i; source = t.source }) row.0))
+      (λ is. inr (subst (λ (u : Trigger). Contains p.triggers u) (λ i. record { reaction = row.1 i; kind = is i; source = t.source }) row.0))
       (input_kind t.kind e)
 
   -- what is joined undelayed to an input from an output that a sets
   fed_joined : (a i : ℕ) → fed (targets_of p a) (joinings_of p i) ≡ true → (o : ℕ) × (MaySet p a o × JoinedUndelayed p o i)
   fed_joined a i e =
-      let found = some_has (λ c. undelayed c && some (sets c.output) (targets_of p a)) (joinings_of p i) e in
+      let found = some_has (λ c. undelayed c && list_any (sets c.output) (targets_of p a)) (joinings_of p i) e in
       let c = found.0 in
       let row = keyed_has (λ c. c.input) i c p.connections found.1.0 in
-      let test = both _ _ found.1.1 in (
+      let test = and_parts _ _ found.1.1 in (
         c.output,
-        (sets_may a c.output test.1, record { delay = c.delay; joins = subst (λ (u : Connection). Has u p.connections) (λ j. record { output = c.output; input = row.1 j; kind = undelayed_kind c.kind test.0 j; delay = c.delay }) row.0 }),
+        (sets_may a c.output test.1, record { delay = c.delay; joins = subst (λ (u : Connection). Contains p.connections u) (λ j. record { output = c.output; input = row.1 j; kind = undelayed_kind c.kind test.0 j; delay = c.delay }) row.0 }),
       )
 
   joined_fed : (a i o : ℕ) → MaySet p a o → JoinedUndelayed p o i → fed (targets_of p a) (joinings_of p i) ≡ true
   joined_fed a i o may joins =
-      has_some (λ c. undelayed c && some (sets c.output) (targets_of p a)) _ (joinings_of p i) (has_keyed (λ c. c.input) i _ p.connections joins.joins refl) (and_true true _ refl (may_sets a o may))
+      has_some (λ c. undelayed c && list_any (sets c.output) (targets_of p a)) _ (joinings_of p i) (has_keyed (λ c. c.input) i _ p.connections joins.joins refl) (and_from true _ refl (may_sets a o may))
 
   at_reaction : {A : Type 0} (f : ℕ → List A) (n x : ℕ) → x < n → get_or (map f (range_with_len 0 n)) x [] ≡ f x
   at_reaction f n x lt = get_or-map-range_with_len f 0 n x x [] lt (omega arith)
@@ -146,7 +94,7 @@ module _ (p : Parts) where
   fed_input a i e =
       ⊎_elim
       (λ (lt : i < length p.inputs). (lt, sym (ap (fed (targets_of p a)) (at_reaction (joinings_of p) (length p.inputs) i lt)) ∙ e))
-      (λ past. absurd (let z : false ≡ true = sym (ap (fed (targets_of p a)) (past_input i past)) ∙ e in let y : ◌≡◌ {A = ℕ} 0 1 = cc in omega arith))
+      (λ past. absurd (let z : false ≡ true = sym (ap (fed (targets_of p a)) (past_input i past)) ∙ e in cc))
       (cases_lt i (length p.inputs))
 
   reached_is : (a b : ℕ) → a < length p.reactions → b < length p.reactions → reached (get_or (all_targets p) a []) (all_joinings p) (get_or (all_readings p) b []) ≡ reached (targets_of p a) (all_joinings p) (readings_of p b)
@@ -155,15 +103,15 @@ module _ (p : Parts) where
   pub precedes_directly : (a b : ℕ) → a < length p.reactions → b < length p.reactions → precedes p a b ≡ true → Directly p a b
   precedes_directly a b lt below e =
       ⊎_elim
-      (λ same. let test = both _ _ same in same_reactor (ltb-true a b test.0) below (eqb-true _ _ test.1))
+      (λ same. let test = and_parts _ _ same in same_reactor (ltb-true a b test.0) below (eqb-true _ _ test.1))
       (λ reach.
       let found = some_has (λ t. takes_input t && fed (targets_of p a) (get_or (all_joinings p) t.source [])) (readings_of p b) (sym (reached_is a b lt below) ∙ reach) in
       let t = found.0 in
-      let test = both _ _ found.1.1 in
+      let test = and_parts _ _ found.1.1 in
       let input = fed_input a t.source test.1 in
       let from = fed_joined a t.source input.1 in
       joined from.0 t.source lt below input.0 from.1.0 from.1.1 (takes_in b t found.1.0 test.0))
-      (either _ _ e)
+      (or_cases _ _ e)
 
   takes_test : (a b i : ℕ) → i < length p.inputs → fed (targets_of p a) (joinings_of p i) ≡ true → TakesIn p b i → reached (targets_of p a) (all_joinings p) (readings_of p b) ≡ true
   takes_test a b i lt e takes =
@@ -174,7 +122,7 @@ module _ (p : Parts) where
       takes
 
   pub directly_precedes : (a b : ℕ) → Directly p a b → precedes p a b ≡ true
-  directly_precedes a b (same_reactor lt below same) = or_left _ _ (and_true _ _ (lt-ltb a b lt) (eq-eqb _ _ same))
+  directly_precedes a b (same_reactor lt below same) = or_left _ _ (and_from _ _ (lt-ltb a b lt) (eq-eqb _ _ same))
   directly_precedes a b (joined o i lt below input may joins takes) = or_right _ _ (reached_is a b lt below ∙ takes_test a b i input (joined_fed a i o may joins) takes)
 
   -- a reaction stands among the direct predecessors of another exactly if it directly precedes it
@@ -182,15 +130,15 @@ module _ (p : Parts) where
   edge_directly a b edge =
       ⊎_elim
       (λ (below : b < length p.reactions).
-      let found = kept_has (λ x. precedes p x b) a (range_with_len 0 (length p.reactions)) (subst (Has a) (at_reaction (predecessors p) (length p.reactions) b below) edge) in
-      precedes_directly a b (let lt = (counting_has a 0 (length p.reactions) found.0).1 in omega arith) below found.1)
-      (λ past. absurd (subst (Has a) (get_or_past (graph p) b [] (let long = length-map-range_with_len (predecessors p) 0 (length p.reactions) in omega arith)) edge))
+      let found = kept_contains (λ x. precedes p x b) (range_with_len 0 (length p.reactions)) a (subst (λ (xs : List ℕ). Contains xs a) (at_reaction (predecessors p) (length p.reactions) b below) edge) in
+      precedes_directly a b (let lt = (counted_contains 0 (length p.reactions) a found.0).1 in omega arith) below found.1)
+      (λ past. absurd (contains_none a (subst (λ (xs : List ℕ). Contains xs a) (get_or_past (graph p) b [] (let long = length-map-range_with_len (predecessors p) 0 (length p.reactions) in omega arith)) edge)))
       (cases_lt b (length p.reactions))
 
   pub directly_edge : (a b : ℕ) → Directly p a b → Edge (graph p) a b
   directly_edge a b d =
       let both = within a b d in
-      subst (Has a) (sym (at_reaction (predecessors p) (length p.reactions) b both.1)) (has_kept (λ x. precedes p x b) a (range_with_len 0 (length p.reactions)) (has_counting a 0 (length p.reactions) (omega arith) both.0) (directly_precedes a b d))
+      subst (λ (xs : List ℕ). Contains xs a) (sym (at_reaction (predecessors p) (length p.reactions) b both.1)) (contains_kept (λ x. precedes p x b) (range_with_len 0 (length p.reactions)) a (contains_counted 0 (length p.reactions) a (omega arith) both.0) (directly_precedes a b d))
     where
       within : (x y : ℕ) → Directly p x y → (x < 0 + length p.reactions) × (y < length p.reactions)
       within x y (same_reactor lt below same) = (omega arith, below)

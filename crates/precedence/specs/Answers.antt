@@ -8,8 +8,8 @@ use Rattle.precedence.specs.Direct.{Directly}
 use Rattle.precedence.specs.Indexes.{Indexes}
 use Rattle.precedence.specs.Tests.{graph}
 use Rattle.precedence.specs.declared.precedence.Precedence.{Precedence}
-use Rattle.precedence.specs.declared.precedence.PrecedenceError.{PrecedenceError}
-use Rattle.precedence.specs.declared.precedence.PrecedenceError.TheVariants as error
+use Rattle.precedence.specs.declared.error.PrecedenceError.{PrecedenceError}
+use Rattle.precedence.specs.declared.error.PrecedenceError.TheVariants as error
 
 -- the longest chains to the reactions: their levels, where there is no circle
 abbrev pub levels_of : Parts → List ℕ
@@ -31,9 +31,11 @@ pub record Holds (p : Parts) (x : Precedence) : Type 0 where
 pub record Means (p : Parts) : Type 0 where
   pub direct : (a b : ℕ) → (Edge (graph p) a b → Directly p a b) × (Directly p a b → Edge (graph p) a b)
   pub level : (x : ℕ) → x < length p.reactions → Level (Directly p) x (slice_index (levels_of p) x)
+  -- what precedes a reaction has a lower level
+  pub rises : (a b : ℕ) → Directly p a b → slice_index (levels_of p) a < slice_index (levels_of p) b
   pub order : Ordered (levels_of p) (order_of p)
 
 abbrev pub Answers : Parts → Result Precedence PrecedenceError → Type 0
 Answers p (Ok x) = Holds p x × Means p
 Answers p (Err (error.Circle v)) = Round (Directly p) (vec_items v)
-Answers p (Err error.NoMemory) = Unit {0}
+Answers p (Err (error.NoMemory e)) = Unit {0}

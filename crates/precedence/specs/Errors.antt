@@ -1,18 +1,18 @@
--- What an error of a graph is of a network.
-use Rattle.std.specs.Prelude.{◌≡◌, vec_items}
+-- What an error of a graph is of a network, and of what is built.
+use Rattle.std.specs.Prelude.{◌≡◌}
 use Rattle.levels.specs.declared.error.LevelsError.{LevelsError}
 use Rattle.levels.specs.declared.error.LevelsError.TheVariants as graph
-use Rattle.precedence.specs.declared.precedence.PrecedenceError.{PrecedenceError}
-use Rattle.precedence.specs.declared.precedence.PrecedenceError.TheVariants as network
-
-abbrev pub Possible : LevelsError → Type 0
-Possible graph.NoNode = ⊥
-Possible (graph.Circle v) = Unit {0}
-Possible graph.NoMemory = Unit {0}
+use Rattle.refusals.specs.declared.error.BuildError.{BuildError}
+use Rattle.refusals.specs.declared.error.BuildError.TheVariants as build
+use Rattle.refusals.specs.declared.refusal.Refusal.TheVariants as refusal
+use Rattle.precedence.specs.declared.error.PrecedenceError.{PrecedenceError}
+use Rattle.precedence.specs.declared.error.PrecedenceError.TheVariants as network
 
 abbrev pub Tells : LevelsError → PrecedenceError → Type 0
 Tells graph.NoNode r = ⊥
-Tells (graph.Circle v) (network.Circle w) = vec_items w ≡ vec_items v
-Tells (graph.Circle v) network.NoMemory = ⊥
-Tells graph.NoMemory (network.Circle w) = ⊥
-Tells graph.NoMemory network.NoMemory = Unit {0}
+Tells (graph.Circle v) r = r ≡ network.Circle v
+Tells (graph.NoMemory e) r = r ≡ network.NoMemory e
+
+abbrev pub Why : PrecedenceError → BuildError → Type 0
+Why (network.Circle v) r = r ≡ build.Refused refusal.Circle
+Why (network.NoMemory e) r = r ≡ build.NoMemory e

@@ -1,6 +1,6 @@
 -- Direct precedence as a test.
 use Rattle.std.specs.Prelude.{ℕ, Bool, true, false, ◌&&◌, ◌||◌, List, [], map, length, filter, ◌==◌, nat_lt, slice_index, slice_index_or}
-use Rattle.std.specs.List.{range_with_len}
+use Rattle.std.specs.List.{list_any, range_with_len}
 use Rattle.lines.specs.declared.records.ConnectionKind.{ConnectionKind}
 use Rattle.lines.specs.declared.records.ConnectionKind.TheVariants.{Undelayed, Delayed}
 use Rattle.lines.specs.declared.records.TriggerKind.{TriggerKind}
@@ -12,7 +12,7 @@ use Rattle.network.specs.declared.parts.Target.{Target}
 use Rattle.network.specs.declared.parts.TargetKind.{TargetKind}
 use Rattle.network.specs.declared.parts.TargetKind.TheVariants as target
 use Rattle.network.specs.declared.parts.Trigger.{Trigger}
-use Rattle.rows.specs.Rows.{some, with_key, by_key}
+use Rattle.rows.specs.Rows.{by_key}
 
 abbrev pub is_output : TargetKind → Bool
 is_output target.Output = true
@@ -41,13 +41,13 @@ takes_input t = is_input t.kind
 
 -- the triggers and readings of a reaction, its targets, and the connections to an input, each in the order of their lines
 abbrev pub readings_of : Parts → ℕ → List Trigger
-readings_of p x = with_key (λ t. t.reaction) x p.triggers
+readings_of p x = filter (λ t. t.reaction == x) p.triggers
 
 abbrev pub targets_of : Parts → ℕ → List Target
-targets_of p x = with_key (λ t. t.reaction) x p.targets
+targets_of p x = filter (λ t. t.reaction == x) p.targets
 
 abbrev pub joinings_of : Parts → ℕ → List Connection
-joinings_of p i = with_key (λ c. c.input) i p.connections
+joinings_of p i = filter (λ c. c.input == i) p.connections
 
 -- the same for all reactions, and for all inputs
 abbrev pub all_readings : Parts → List (List Trigger)
@@ -61,11 +61,11 @@ all_joinings p = by_key (λ c. c.input) (length p.inputs) p.connections
 
 -- some of these targets sets an output that one of these connections joins undelayed
 abbrev pub fed : List Target → List Connection → Bool
-fed targets joinings = some (λ c. undelayed c && some (sets c.output) targets) joinings
+fed targets joinings = list_any (λ c. undelayed c && list_any (sets c.output) targets) joinings
 
 -- the same for some input among these readings
 abbrev pub reached : List Target → List (List Connection) → List Trigger → Bool
-reached targets joinings readings = some (λ t. takes_input t && fed targets (slice_index_or joinings t.source [])) readings
+reached targets joinings readings = list_any (λ t. takes_input t && fed targets (slice_index_or joinings t.source [])) readings
 
 -- a is the earlier of two reactions of one reactor, given the reactors of all
 abbrev pub earlier : List ℕ → ℕ → ℕ → Bool

@@ -2,11 +2,11 @@
 #![tactic(auto)]
 
 mod direct;
+mod error;
 mod index;
-mod indexing;
 mod precedence;
-mod preceding;
 mod predecessors;
 
+pub use error::PrecedenceError;
 pub use index::Index;
-pub use precedence::{Precedence, PrecedenceError};
+pub use precedence::Precedence;

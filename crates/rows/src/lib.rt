@@ -1,10 +1,8 @@
-// Rows of tables: how many are wanted, which ones, and those of each key.
+// Rows of tables by their keys.
 #![tactic(auto)]
 
 mod groups;
 mod keyed;
-mod wanted;
 
 pub use groups::{group_at, grouped};
-pub use keyed::{Keyed, WithKey};
-pub use wanted::{Wanted, count_wanted, some_wanted};
+pub use keyed::Keyed;

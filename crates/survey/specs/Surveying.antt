@@ -1,12 +1,8 @@
 -- What a survey tells.
-use Rattle.std.specs.Prelude.{◌≡◌, length, Ok, Err, vec_items, Result}
-use Rattle.std.specs.declared.alloc.AllocError.{AllocError}
-use Rattle.frozen.specs.Freezing.{declared_by}
+use Rattle.std.specs.Prelude.{◌≡◌, length, vec_items}
 use Rattle.levels.specs.Chains.{Round}
 use Rattle.network.specs.Tables.{Parts}
 use Rattle.precedence.specs.Direct.{Directly}
-use Rattle.precedence.specs.declared.precedence.PrecedenceError.{PrecedenceError}
-use Rattle.precedence.specs.declared.precedence.PrecedenceError.TheVariants as error
 use Rattle.survey.specs.declared.survey.Order.{Order}
 use Rattle.survey.specs.declared.survey.Order.TheVariants as order
 use Rattle.survey.specs.declared.survey.Survey.{Survey}
@@ -16,14 +12,9 @@ use Rattle.survey.specs.declared.survey.Totals.{Totals}
 abbrev pub counted : Parts → Totals
 counted p = record { reactors = p.reactors; inputs = length p.inputs; outputs = length p.outputs; timers = length p.timers; actions = length p.actions; connections = length p.connections; reactions = length p.reactions; stop = p.stop }
 
-abbrev pub Circles : PrecedenceError → Result Order AllocError → Type 0
-Circles (error.Circle v) r = r ≡ Ok (order.Circle v)
-Circles error.NoMemory (Ok o) = ⊥
-Circles error.NoMemory (Err e) = Unit {0}
-
 -- the frozen network, or a circle
 abbrev pub Orders : Parts → Order → Type 0
-Orders p (order.Levels n) = declared_by n ≡ p
+Orders p (order.Levels n) = n ≡ p
 Orders p (order.Circle v) = Round (Directly p) (vec_items v)
 
 pub record Surveys (p : Parts) (s : Survey) : Type 0 where

@@ -3,6 +3,5 @@
 
 mod show;
 mod survey;
-mod surveying;
 
 pub use survey::{Order, Survey, Totals};

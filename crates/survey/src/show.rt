@@ -35,7 +35,7 @@ fn say_totals<W: fmt::Write>(f: &mut fmt::Formatter<W>, all: Totals) -> fmt::Res
 
 fn say_levels<W: fmt::Write>(f: &mut fmt::Formatter<W>, network: &Network) -> fmt::Result {
     for reaction in 0..network.tables().reactions.len() {
-        let level = network.level(reaction).unwrap_or(0);
+        let level = network.level(reaction).unwrap();
         write!(
             f,
             "reaction {reaction}: level {level}, directly preceded by "

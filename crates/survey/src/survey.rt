@@ -1,7 +1,17 @@
 // A network seen as a whole.
-use frozen::Network;
+ghost use Rattle.std.specs.Prelude.{◌≡◌, IfOk, vec_items};
+ghost use Rattle.frozen.specs.Freezing.{Circular};
+ghost use Rattle.levels.specs.Chains.{Round};
+ghost use Rattle.network.specs.Held.{held};
+ghost use Rattle.precedence.specs.Direct.{Directly};
 
-#[derive(Clone, Copy)]
+use frozen::{Network, freeze};
+use network::{Assembly, Tables};
+use precedence::{Precedence, PrecedenceError};
+use refusals::BuildError;
+use std::alloc::{AllocError, Global};
+
+#[derive(Clone, Copy, Debug, PartialEq, Eq)]
 pub struct Totals {
     pub reactors: usize,
     pub inputs: usize,
@@ -14,6 +24,26 @@ pub struct Totals {
     pub stop: Option<u64>,
 }
 
+impl Totals {
+    ghost use Rattle.survey.specs.Surveying.{counted};
+
+    fn of(tables: &Tables) -> Totals
+        ensures { result ≡ counted (held tables.now) }
+    {
+        Totals {
+            reactors: tables.reactors,
+            inputs: tables.inputs.len(),
+            outputs: tables.outputs.len(),
+            timers: tables.timers.len(),
+            actions: tables.actions.len(),
+            connections: tables.connections.len(),
+            reactions: tables.reactions.len(),
+            stop: tables.stop,
+        }
+    }
+}
+
+// No `Result`: that there is a circle is no error of a survey.
 #[derive(Drop)]
 pub enum Order {
     Levels(Network),
@@ -21,8 +51,48 @@ pub enum Order {
     Circle(Vec<usize>),
 }
 
+impl Order {
+    ghost use Rattle.survey.specs.Surveying.{Orders};
+
+    fn of(heap: Global, assembly: Assembly) -> Result<Order, AllocError>
+        ensures { IfOk result (Orders assembly) }
+    {
+        match freeze(heap, assembly) {
+            Ok(network) => Ok(Order::Levels(network)),
+            Err((assembly, BuildError::Refused(_))) => {
+                Ok(Order::Circle(circle_in(heap, &assembly)?))
+            }
+            Err((_, BuildError::NoMemory(why))) => Err(why),
+        }
+    }
+}
+
+// A circle of an assembly that has one.
+fn circle_in(heap: Global, assembly: &Assembly) -> Result<Vec<usize>, AllocError>
+    requires { Circular assembly.now }
+    ensures { IfOk result (λ circle. Round (Directly assembly.now) (vec_items circle)) }
+{
+    match Precedence::of(heap, assembly.tables()) {
+        Ok(_) => unreachable(),
+        Err(PrecedenceError::Circle(circle)) => Ok(circle),
+        Err(PrecedenceError::NoMemory(why)) => Err(why),
+    }
+}
+
 #[derive(Drop)]
 pub struct Survey {
     pub totals: Totals,
     pub order: Order,
+}
+
+impl Survey {
+    ghost use Rattle.survey.specs.Surveying.{Surveys};
+
+    pub fn of(heap: Global, assembly: Assembly) -> Result<Survey, AllocError>
+        ensures { IfOk result (Surveys assembly) }
+    {
+        let totals = Totals::of(assembly.tables());
+        let order = Order::of(heap, assembly)?;
+        Ok(Survey { totals, order })
+    }
 }

@@ -1,7 +1,6 @@
 -- Tags as a time and a microstep, their order, and a tag plus a delay.
-use Rattle.std.specs.Prelude.{◌≡◌, ℕ, ◌+◌, ◌<◌, cond, ◌&&◌, ◌⊎◌, Some, Option, ◌==◌, nat_le}
+use Rattle.std.specs.Prelude.{◌≡◌, ℕ, ◌+◌, ◌<◌, if◌then◌else◌, ◌&&◌, ◌⊎◌, Some, Option, ◌==◌, nat_le}
 use Rattle.std.specs.Bool.{then_some}
-use Rattle.tags.specs.declared.tag.Tag.{Tag}
 
 -- a time in whole nanoseconds since the start, and a microstep at that time
 pub record Moment : Type 0 where
@@ -10,10 +9,6 @@ pub record Moment : Type 0 where
 
 abbrev pub tag_at : ℕ → ℕ → Moment
 tag_at t m = record { time = t; microstep = m }
-
--- the moment that a tag of the code stands for
-abbrev pub moment_of : Tag → Moment
-moment_of g = tag_at g.time g.microstep
 
 -- a tag's time and microstep go up to these, and what lies past either is beyond the horizon
 abbrev pub last_time : ℕ
@@ -28,7 +23,7 @@ within_horizon a = then_some (nat_le a.time last_time && nat_le a.microstep last
 
 -- a delay of 0 leads to the next microstep, and any other to microstep 0 of a later time
 abbrev pub delayed : Moment → ℕ → Moment
-delayed a d = cond (d == 0) (tag_at a.time (a.microstep + 1)) (tag_at (a.time + d) 0)
+delayed a d = if d == 0 then tag_at a.time (a.microstep + 1) else tag_at (a.time + d) 0
 
 -- a tag plus a delay
 abbrev pub tag_plus : Moment → ℕ → Option Moment
@@ -41,10 +36,6 @@ BeyondHorizon a d = ((d ≡ 0) × (a.microstep ≡ last_microstep)) ⊎ ((0 < d)
 -- the order of tags: by time, then by microstep
 abbrev pub Before : Moment → Moment → Type 0
 Before a b = (a.time < b.time) ⊎ ((a.time ≡ b.time) × (a.microstep < b.microstep))
-
--- P holds exactly when Q does
-abbrev pub ExactlyWhen : Type 0 → Type 0 → Type 0
-ExactlyWhen P Q = (P → Q) × (Q → P)
 
 -- one of the three holds, and the other two do not
 abbrev pub ExactlyOne : Type 0 → Type 0 → Type 0 → Type 0

@@ -1,8 +1,6 @@
 // Tags: the points at which a network reacts, in their order, and a tag plus a delay.
 #![tactic(auto)]
 
-mod arithmetic;
-mod order;
 mod tag;
 
 pub use tag::{HORIZON, Tag};

@@ -1,33 +1,8 @@
 // Lines of a network and the number of the refusal of each, 0 where it is accepted.
-use input::first_line;
+use crate::cases::answers;
 use network::Assembly;
-use refusals::BuildError;
 use std::process::Abort;
 use std::test::*;
-
-fn number_of(answer: Result<(), BuildError>) -> Result<u8, Fail> {
-    match answer {
-        Ok(()) => Ok(b'0'),
-        Err(BuildError::Refused(refusal)) => Ok(b'0'.saturating_add(refusal.number())),
-        Err(BuildError::NoMemory) => Err(Fail::new("no memory")),
-    }
-}
-
-// Each case is the expected number, a space, and the line; the lines go into one assembly, in order.
-fn answers(rt: &impl Abort, assembly: &mut Assembly, cases: &[u8]) -> Result<(), Fail> {
-    let mut left = cases;
-    for _ in 0..cases.len() {
-        let Some((case, rest)) = first_line(left) else {
-            return Ok(());
-        };
-        let [number, b' ', line @ ..] = case else {
-            return Err(Fail::new("a case without its number"));
-        };
-        assert_eq!(rt; number_of(assembly.add(line))?, *number);
-        left = rest;
-    }
-    Ok(())
-}
 
 // The same line so many times, each accepted, and then refused.
 fn fills(
@@ -38,9 +13,9 @@ fn fills(
     refused: &[u8],
 ) -> Result<(), Fail> {
     for _ in 0..times {
-        assert_eq!(rt; number_of(assembly.add(line))?, b'0');
+        assembly.add(line)?;
     }
-    answers(rt, assembly, refused)
+    answers(rt, refused, |line| assembly.add(line))
 }
 
 #[test]
@@ -98,7 +73,7 @@ fn names_and_owners(rt: HostRuntime) -> Result<(), Fail> {
         1 GO 4 0 0\n\
         2 RE 0\n\
         ";
-    answers(&rt, &mut assembly, cases)
+    answers(&rt, cases, |line| assembly.add(line))
 }
 
 #[test]
@@ -145,5 +120,5 @@ fn eight_of_a_reaction(rt: HostRuntime) -> Result<(), Fail> {
         6 SC 0 0\n\
         0 SC 1 1\n\
         ";
-    answers(&rt, &mut assembly, cases)
+    answers(&rt, cases, |line| assembly.add(line))
 }

@@ -1,3 +1,4 @@
+// Inputs and what is said of each, a test for each sort of line.
 use explanation::Explanation;
 use std::alloc::Global;
 use std::fmt::Write;

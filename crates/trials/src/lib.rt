@@ -4,6 +4,8 @@
 #[cfg(test)]
 mod assembly;
 #[cfg(test)]
+mod cases;
+#[cfg(test)]
 mod explained;
 #[cfg(test)]
 mod read_lines;

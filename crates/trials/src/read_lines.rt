@@ -1,27 +1,16 @@
-// Lines and the number of the refusal of each, 0 where it is read.
-use input::first_line;
-use lines::{ReadingClass, Record, Section, read};
+// Lines and the number of the refusal of each, 0 where it is read. Each table is a test of its own, named by what it shows:
+// one test over all of them would not say which failed.
+use crate::cases::answers;
+use lines::{Field, ReadingClass, Record, Section, read};
 use std::process::Abort;
 use std::test::*;
 
-// Each case is the expected number, a space, and the line.
-fn answers(rt: &impl Abort, cases: &[u8], section: Section) -> Result<(), Fail> {
-    let mut left = cases;
-    for _ in 0..cases.len() {
-        let Some((case, rest)) = first_line(left) else {
-            return Ok(());
-        };
-        let [number, b' ', line @ ..] = case else {
-            return Err(Fail::new("a case without its number"));
-        };
-        let given = match read(line, section) {
-            Ok(_) => b'0',
-            Err(refusal) => b'0'.saturating_add(refusal.number()),
-        };
-        assert_eq!(rt; given, *number);
-        left = rest;
-    }
-    Ok(())
+// Each case is the expected number, a space, and a line that may stand in the section.
+fn reads(rt: &impl Abort, cases: &[u8], section: Section) -> Result<(), Fail> {
+    answers(rt, cases, |line| {
+        read(line, section)?;
+        Ok(())
+    })
 }
 
 #[test]
@@ -55,7 +44,7 @@ fn well_formed_lines(rt: HostRuntime) -> Result<(), Fail> {
         0 GO 9999999999999999999 0 1\n\
         0 IP 9999999999999999999\n\
         ";
-    answers(&rt, cases, Section::Setup)
+    reads(&rt, cases, Section::Setup)
 }
 
 #[test]
@@ -71,7 +60,7 @@ fn unknown_marks(rt: HostRuntime) -> Result<(), Fail> {
         1 AD 0 0\n\
         1 \0\0\n\
         ";
-    answers(&rt, cases, Section::Setup)
+    reads(&rt, cases, Section::Setup)
 }
 
 #[test]
@@ -111,7 +100,7 @@ fn malformed_lines(rt: HostRuntime) -> Result<(), Fail> {
         2 GO -1 0 0\n\
         2 RE\
         ";
-    answers(&rt, cases, Section::Setup)
+    reads(&rt, cases, Section::Setup)
 }
 
 #[test]
@@ -151,7 +140,7 @@ fn fields_out_of_range(rt: HostRuntime) -> Result<(), Fail> {
         3 GO 0 2 0\n\
         3 GO 0 0 2\n\
         ";
-    answers(&rt, cases, Section::Setup)
+    reads(&rt, cases, Section::Setup)
 }
 
 #[test]
@@ -172,7 +161,7 @@ fn lines_of_a_run(rt: HostRuntime) -> Result<(), Fail> {
         2 OF\n\
         2 AD 0 0\
         ";
-    answers(&rt, cases, Section::Run)
+    reads(&rt, cases, Section::Run)
 }
 
 #[test]
@@ -186,7 +175,7 @@ fn network_section(rt: HostRuntime) -> Result<(), Fail> {
         1 GO 4 0 0\n\
         1 OF 0 0 0\n\
         ";
-    answers(&rt, cases, Section::Network)
+    reads(&rt, cases, Section::Network)
 }
 
 #[test]
@@ -197,7 +186,7 @@ fn bytecode_section(rt: HostRuntime) -> Result<(), Fail> {
         1 BT\n\
         1 RE\n\
         ";
-    answers(&rt, cases, Section::Bytecode)
+    reads(&rt, cases, Section::Bytecode)
 }
 
 #[test]
@@ -208,7 +197,11 @@ fn table_section(rt: HostRuntime) -> Result<(), Fail> {
         1 BO\n\
         1 RE\n\
         ";
-    answers(&rt, cases, Section::Table)
+    reads(&rt, cases, Section::Table)
+}
+
+fn field<T>(text: &[u8], place: usize, value: T) -> Field<'_, T> {
+    Field { text, place, value }
 }
 
 #[test]
@@ -226,14 +219,10 @@ fn fields_and_their_places(rt: HostRuntime) -> Result<(), Fail> {
     else {
         return Err(Fail::new("no row"));
     };
-    assert!(rt; state.text == b"-12".as_slice() && state.place == 3 && state.value == -12);
-    assert!(rt;
-        class.text == b"1".as_slice()
-            && class.place == 7
-            && matches!(class.value, ReadingClass::AtMostZero)
-    );
-    assert!(rt; next.text == b"345".as_slice() && next.place == 9 && next.value == 345);
-    assert!(rt; target.text == b"0".as_slice() && target.place == 13 && target.value == 0);
-    assert!(rt; value.text == b"-6".as_slice() && value.place == 15 && value.value == -6);
+    assert_eq!(rt; state, field(b"-12", 3, -12));
+    assert_eq!(rt; class, field(b"1", 7, ReadingClass::AtMostZero));
+    assert_eq!(rt; next, field(b"345", 9, 345));
+    assert_eq!(rt; target, field(b"0", 13, 0));
+    assert_eq!(rt; value, field(b"-6", 15, -6));
     Ok(())
 }

@@ -6,6 +6,5 @@ mod network;
 mod run;
 mod said;
 mod step;
-mod words;
 
 pub use said::Said;

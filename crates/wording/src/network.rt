@@ -1,17 +1,17 @@
 // What a line of a network declares, in words.
 use crate::body;
-use crate::words::{action_word, trigger_words};
-use lines::{ConnectionKind, Record};
-use outline::Counts;
+use lines::{ConnectionKind, Record, TriggerKind};
+use outline::Declared;
 use std::fmt;
 
-// The words of a record, after what was declared before it.
+// The words of a record. Each function here hands on what it has no words for: one match that
+// chose among them would leave an empty arm in each.
 pub(crate) fn say<W: fmt::Write>(
     f: &mut fmt::Formatter<W>,
-    record: Record<'_>,
-    before: Counts,
+    declared: &Declared<'_>,
 ) -> fmt::Result {
-    match record {
+    let before = &declared.before;
+    match declared.record {
         Record::Reactor => write!(f, "reactor {}", before.reactors),
         Record::Input { reactor } => of_reactor(f, "input", before.inputs, reactor.value),
         Record::Output { reactor } => of_reactor(f, "output", before.outputs, reactor.value),
@@ -29,18 +29,13 @@ pub(crate) fn say<W: fmt::Write>(
             delay,
         } => {
             of_reactor(f, "action", before.actions, reactor.value)?;
-            write!(
-                f,
-                ": {}, least delay {}",
-                action_word(kind.value),
-                delay.value
-            )
+            write!(f, ": {}, least delay {}", kind.value, delay.value)
         }
         Record::Reaction { reactor, body } => {
             of_reactor(f, "reaction", before.reactions, reactor.value)?;
             write!(f, ": runs body {}", body.value)
         }
-        other => say_link(f, other, before),
+        _ => say_link(f, declared),
     }
 }
 
@@ -62,19 +57,15 @@ fn say_timing<W: fmt::Write>(f: &mut fmt::Formatter<W>, first: u64, period: u64)
 }
 
 // What joins parts to each other, and where the network stops.
-fn say_link<W: fmt::Write>(
-    f: &mut fmt::Formatter<W>,
-    record: Record<'_>,
-    before: Counts,
-) -> fmt::Result {
-    match record {
+fn say_link<W: fmt::Write>(f: &mut fmt::Formatter<W>, declared: &Declared<'_>) -> fmt::Result {
+    match declared.record {
         Record::Connection {
             output,
             input,
             kind,
             delay,
         } => {
-            write!(f, "connection {}: ", before.connections)?;
+            write!(f, "connection {}: ", declared.before.connections)?;
             write!(f, "output {} to input {}", output.value, input.value)?;
             say_delay(f, kind.value, delay.value)
         }
@@ -82,31 +73,27 @@ fn say_link<W: fmt::Write>(
             reaction,
             kind,
             source,
-        } => of_reaction(f, reaction.value, trigger_words(kind.value), source.value),
-        Record::Write { reaction, output } => of_reaction(
-            f,
-            reaction.value,
-            "may set output",
-            output.value,
-        ),
-        Record::Schedule { reaction, action } => of_reaction(
-            f,
-            reaction.value,
-            "may schedule action",
-            action.value,
-        ),
+        } => {
+            write!(f, "reaction {} ", reaction.value)?;
+            say_trigger(f, kind.value, source.value)
+        }
+        Record::Write { reaction, output } => {
+            write!(
+                f,
+                "reaction {} may set output {}",
+                reaction.value, output.value
+            )
+        }
+        Record::Schedule { reaction, action } => {
+            write!(
+                f,
+                "reaction {} may schedule action {}",
+                reaction.value, action.value
+            )
+        }
         Record::Stop { time } => write!(f, "stop tag at ({}, 0)", time.value),
-        other => body::say(f, other, before),
+        _ => body::say(f, declared),
     }
-}
-
-fn of_reaction<W: fmt::Write>(
-    f: &mut fmt::Formatter<W>,
-    reaction: u64,
-    does: &str,
-    number: u64,
-) -> fmt::Result {
-    write!(f, "reaction {reaction} {does} {number}")
 }
 
 fn say_delay<W: fmt::Write>(
@@ -117,5 +104,16 @@ fn say_delay<W: fmt::Write>(
     match kind {
         ConnectionKind::Undelayed => write!(f, ", undelayed"),
         ConnectionKind::Delayed => write!(f, ", delayed by {delay}"),
+    }
+}
+
+fn say_trigger<W: fmt::Write>(
+    f: &mut fmt::Formatter<W>,
+    kind: TriggerKind,
+    source: u64,
+) -> fmt::Result {
+    match kind {
+        TriggerKind::ReadInput => write!(f, "reads input {source}"),
+        _ => write!(f, "is triggered by {kind} {source}"),
     }
 }

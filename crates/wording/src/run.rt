@@ -1,5 +1,4 @@
 // What a line of a run says, in words.
-use crate::words::{picker_word, queue_word};
 use lines::Record;
 use std::fmt;
 
@@ -10,13 +9,8 @@ pub(crate) fn say<W: fmt::Write>(f: &mut fmt::Formatter<W>, record: Record<'_>) 
             picker,
             queue,
         } => {
-            let picker = picker_word(picker.value);
-            let queue = queue_word(queue.value);
-            write!(
-                f,
-                "start: room for {} events, {picker} picker, {queue} queue",
-                capacity.value
-            )
+            write!(f, "start: room for {} events, ", capacity.value)?;
+            write!(f, "{} picker, {} queue", picker.value, queue.value)
         }
         Record::Offer {
             action,
@@ -27,11 +21,8 @@ pub(crate) fn say<W: fmt::Write>(f: &mut fmt::Formatter<W>, record: Record<'_>) 
             write!(f, "with value {}", value.value)
         }
         Record::Advance { reading, tags } => {
-            write!(
-                f,
-                "advance: reading {}, at most {} tags",
-                reading.value, tags.value
-            )
+            write!(f, "advance: reading {}, ", reading.value)?;
+            write!(f, "at most {} tags", tags.value)
         }
         _ => Ok(()),
     }

@@ -1,23 +1,19 @@
 // What is to be said of one line, in words.
 use crate::network;
-use crate::words::refusal_words;
-use outline::Told;
+use outline::Declared;
+use refusals::Refusal;
 use std::fmt;
 
-#[derive(Clone, Copy)]
+#[derive(Clone, Copy, Debug, PartialEq, Eq)]
 pub struct Said<'a> {
-    pub told: Told<'a>,
+    pub told: Result<Declared<'a>, Refusal>,
 }
 
 impl fmt::Display for Said<'_> {
     fn fmt<W: fmt::Write>(&self, f: &mut fmt::Formatter<W>) -> fmt::Result {
-        match self.told {
-            Told::Declared { record, before } => network::say(f, record, before),
-            Told::Refused(refusal) => {
-                let number = refusal.number();
-                let words = refusal_words(refusal);
-                write!(f, "refused {number}: {words}")
-            }
+        match &self.told {
+            Ok(declared) => network::say(f, declared),
+            Err(refusal) => write!(f, "refused {}: {refusal}", refusal.number()),
         }
     }
 }

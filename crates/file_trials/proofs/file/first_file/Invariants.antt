@@ -1,8 +1,5 @@
-use Rattle.std.proofs.Common.{◌≤◌, length}
+use Rattle.std.proofs.Common.{◌≡◌, ◌+◌, length}
 use Rattle.file_trials.proofs.file.first_file.Given as goal
 
-abbrev pub decreases-loop-line : goal.decreases-loop-line
-decreases-loop-line l = length l.rest
-
 abbrev pub invariant-loop-line : goal.invariant-loop-line
-invariant-loop-line l = length l.rest ≤ length l.input
+invariant-loop-line l = l.len + length l.line-iterator ≡ length l.input

@@ -1,7 +1,7 @@
-use Rattle.std.proofs.Common.{vec_items}
-use Rattle.rows.specs.Rows.{with_key}
-use Rattle.rows.proofs.Kept.{one_more}
+use Rattle.std.proofs.Common.{arith}
+use Rattle.std.proofs.lemmas.List.{map_push}
+use Rattle.std.proofs.lemmas.List.FromFn.{map-range_with_len_more}
 use Rattle.rows.proofs.groups.grouped.Goals as goal
 
 pub loop-key-preserved : goal.loop-key-preserved
-loop-key-preserved g c = one_more vec_items (λ k. with_key g.T.Keyed.has k c.args.rows.now) c.loop-key.key _ _ c.in_ok-wanted_rows.field-0 c.loop-key.invariant c.in_ok-wanted_rows.ensures c.in_ok-push.ensures.items
+loop-key-preserved g c = rw (c.in_ok-push.ensures.items, map_push, c.loop-key.invariant, c.in_ok-with_key.ensures, map-range_with_len_more _ 0 c.loop-key.key c.loop-key.key (omega arith))

@@ -1,5 +1,0 @@
-use Rattle.input.proofs.Cut.{shorter}
-use Rattle.explanation.proofs.explanation.ExplanationDisplay.fmt.Goals as goal
-
-pub loop-line-smaller : goal.loop-line-smaller
-loop-line-smaller g c = shorter _ _ _ c.in-Some.ensures

@@ -1,5 +1,0 @@
-use Rattle.std.proofs.Common.{length}
-use Rattle.file_trials.proofs.main.Given as goal
-
-abbrev pub decreases-loop-file : goal.decreases-loop-file
-decreases-loop-file l = length l.rest
