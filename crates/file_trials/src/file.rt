@@ -4,7 +4,8 @@ ghost use Rattle.std.specs.Iterator.{at_most};
 
 use input::Lines;
 
-// The bytes before the first line of two dashes, and those after it; their place is the length of the lines before.
+// The bytes before the first line of two dashes, and those after it. A loop with a sum: no iterator's method adds up what
+// comes before the item that it finds.
 fn first_file(input: &[u8]) -> Option<(&[u8], &[u8])>
     ensures { IfSome result (λ x. length x.1.now < length input.now) }
 {

@@ -43,7 +43,8 @@ impl Network {
         self.assembly.tables()
     }
 
-    // The triggers and readings of a reaction, in the order of their lines. Each read is `group_at` of the groups that it names.
+    // The triggers and readings of a reaction, in the order of their lines. Each read is
+    // `group_at` of the groups that it names: one function over all three would take those from outside.
     pub fn readings(&self, reaction: usize) -> &[Trigger]
         ensures { result.now ≡ slice_index_or (all_readings self.now) reaction [] }
     {

@@ -1,5 +1,6 @@
 // Fields of a record from tokens. Numbers and values are functions of their own: one over both types would take what
-// their conversion gives as a premise.
+// their conversion gives as a premise. Each requires that the token lies in the line, of which a token holds no part: an
+// array of N structs with references gets no generated proof.
 ghost use Rattle.std.specs.Prelude.{◌≡◌, take, drop, pos, ◌≤ℤ◌, Result, IsOk, unsigned_abs};
 ghost use Rattle.lines.specs.Fields.{Within};
 ghost use Rattle.lines.specs.Records.{counted, valued};

@@ -45,6 +45,7 @@ pub enum TargetKind {
     Action,
 }
 
+// Alike to the words of the kinds in `lines`, but each type lists its own.
 impl fmt::Display for TargetKind {
     fn fmt<W: fmt::Write>(&self, f: &mut fmt::Formatter<W>) -> fmt::Result {
         f.write_str(match self {

@@ -1,4 +1,5 @@
-// Inputs and what is said of each, a test for each sort of line.
+// Inputs and what is said of each, a test for each sort of line, named by what it shows: one test over all would not say
+// which failed.
 use explanation::Explanation;
 use std::alloc::Global;
 use std::fmt::Write;
