@@ -32,8 +32,9 @@ where
         return writeln!(f, "the input is longer than {MOST_BYTES} bytes");
     }
     for (number, line) in (1u64..).zip(Lines::of(input)) {
+        write!(f, "{number}: ")?;
         let told = tell(line)?;
-        writeln!(f, "{number}: {}", Said { told })?;
+        writeln!(f, "{}", Said { told })?;
     }
     Ok(())
 }

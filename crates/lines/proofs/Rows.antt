@@ -62,7 +62,7 @@ stops_tail [] lo hi = omega arith
 stops_tail (z ∷ zs) lo hi = omega arith
 
 -- some fields, and then t
-abbrev onto : List ℤ → List ℕ → List ℕ
+abbrev pub onto : List ℤ → List ℕ → List ℕ
 onto [] t = t
 onto (z ∷ zs) t = 32 ∷ (signed_decimal z ++ onto zs t)
 
@@ -71,7 +71,7 @@ stops_onto [] t st = st
 stops_onto (z ∷ zs) t st = λ lo hi. omega arith
 
 -- what is left after some fields are the other fields
-unread : (ks : List Kind) (i : ℕ) (ys zs : List ℤ) (left : List ℕ) → i ≤ length ks → Each Written (take i ks) ys → Each Written ks zs → (0 < i → Stops left) → onto ys left ≡ tail zs → (ws : List ℤ) × (Each Written (drop i ks) ws × (left ≡ tail ws))
+pub unread : (ks : List Kind) (i : ℕ) (ys zs : List ℤ) (left : List ℕ) → i ≤ length ks → Each Written (take i ks) ys → Each Written ks zs → (0 < i → Stops left) → onto ys left ≡ tail zs → (ws : List ℤ) × (Each Written (drop i ks) ws × (left ≡ tail ws))
 unread [] zero [] zs left le ey ez st is = (zs, (ez, is))
 unread [] zero (y ∷ ys) zs left le ey ez st is = absurd ey
 unread [] (suc i) ys zs left le ey ez st is = absurd (omega arith)

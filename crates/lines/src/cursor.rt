@@ -31,6 +31,7 @@ impl<'a> Cursor<'a> {
     }
 
     // The field in front of what is left, after one space.
+    #[inline(always)]
     pub(crate) fn next(&mut self, kind: Kind) -> Option<Token>
         ensures { MatchOption result (NoField (left self.old) kind) (λ t. Takes self.old kind t self.new) }
     {

@@ -59,6 +59,7 @@ fn natural_in_front(text: &[u8]) -> Option<Numeral<u64>>
 }
 
 // The number in front with its sign; there is no `-0`.
+#[inline(always)]
 pub(crate) fn integer_in_front(text: &[u8]) -> Option<Numeral<i128>>
     ensures { MatchOption result (NoInteger text.now) (λ n. NumberAt text.now n.value n.len) }
 {
