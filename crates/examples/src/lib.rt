@@ -3,7 +3,8 @@
 #![tactic(auto)]
 
 ghost use Rattle.std.specs.Prelude.{◌≡◌, ◌<◌, ◌≤◌, None};
-ghost use Rattle.tags.specs.Tags.{tag_at, last_time, tag_plus};
+ghost use Rattle.std.specs.Option.{option_map};
+ghost use Rattle.tags.specs.Tags.{tag_at, moment_of, last_time, tag_plus};
 ghost use Rattle.examples.specs.Worked.{WorkedExamples};
 
 use tags::{HORIZON, Tag};
@@ -18,7 +19,7 @@ pub struct Sums {
 }
 
 fn sum(time: u64, microstep: u16, delay: u64) -> Option<Tag>
-    ensures the_sum { time ≤ last_time → result ≡ tag_plus (tag_at time microstep) delay }
+    ensures the_sum { time ≤ last_time → option_map moment_of result ≡ tag_plus (tag_at time microstep) delay }
     ensures none_from_beyond_the_horizon { last_time < time → result ≡ None }
 {
     Tag::new(time, microstep)?.plus(delay)
@@ -27,10 +28,10 @@ fn sum(time: u64, microstep: u16, delay: u64) -> Option<Tag>
 #[tactic(auto, using(crate::proofs::Joinings::undelayed_circle, crate::proofs::Joinings::delayed_none))]
 pub fn worked_examples() -> Sums
     ensures worked_examples { WorkedExamples }
-    ensures no_delay { result.no_delay ≡ tag_plus (tag_at 7 3) 0 }
-    ensures some_delay { result.some_delay ≡ tag_plus (tag_at 7 3) 5 }
-    ensures past_the_last_microstep { result.past_the_last_microstep ≡ tag_plus (tag_at 7 65535) 0 }
-    ensures past_the_last_time { result.past_the_last_time ≡ tag_plus (tag_at 1000000000000000000 0) 1 }
+    ensures no_delay { option_map moment_of result.no_delay ≡ tag_plus (tag_at 7 3) 0 }
+    ensures some_delay { option_map moment_of result.some_delay ≡ tag_plus (tag_at 7 3) 5 }
+    ensures past_the_last_microstep { option_map moment_of result.past_the_last_microstep ≡ tag_plus (tag_at 7 65535) 0 }
+    ensures past_the_last_time { option_map moment_of result.past_the_last_time ≡ tag_plus (tag_at 1000000000000000000 0) 1 }
 {
     Sums {
         no_delay: sum(7, 3, 0),

@@ -1,6 +1,7 @@
 -- Tags as a time and a microstep, their order, and a tag plus a delay.
 use Rattle.std.specs.Prelude.{◌≡◌, ℕ, ◌+◌, ◌<◌, if◌then◌else◌, ◌&&◌, ◌⊎◌, Some, Option, ◌==◌, nat_le}
 use Rattle.std.specs.Bool.{then_some}
+use Rattle.tags.specs.declared.tag.Tag.{Tag}
 
 -- a time in whole nanoseconds since the start, and a microstep at that time
 pub record Moment : Type 0 where
@@ -9,6 +10,10 @@ pub record Moment : Type 0 where
 
 abbrev pub tag_at : ℕ → ℕ → Moment
 tag_at t m = record { time = t; microstep = m }
+
+-- the moment that a tag of the code stands for
+abbrev pub moment_of : Tag → Moment
+moment_of g = tag_at g.time g.microstep
 
 -- a tag's time and microstep go up to these, and what lies past either is beyond the horizon
 abbrev pub last_time : ℕ

@@ -1,10 +1,7 @@
 // A tag: a time, in nanoseconds since the start, and a microstep at that time.
-ghost use Rattle.std.specs.Prelude.{◌≡◌, ◌<◌, ◌≤◌, ◌↔◌, IsTrue, IsNone};
-ghost use Rattle.std.specs.declared.cmp.Ordering.TheVariants.{Less, Equal, Greater};
-ghost use Rattle.tags.specs.Tags.{Moment, tag_at, last_time, last_microstep, within_horizon, tag_plus, BeyondHorizon, Before, TotalOrder, LaterThanItsStart};
+ghost use Rattle.std.specs.Prelude.{◌≤◌};
 
 use std::cmp::Ordering;
-use std::marker::Model;
 
 // The last time that a tag may have.
 pub const HORIZON: u64 = 1_000_000_000_000_000_000;
@@ -14,21 +11,17 @@ pub const HORIZON: u64 = 1_000_000_000_000_000_000;
 pub struct Tag {
     time: u64,
     microstep: u16,
-}
-
-impl Model for Tag {
-    ghost Value = { Moment };
-
-    ghost view = { λ t. tag_at t.time t.microstep };
-
-    ghost invariant = { λ t. t.time ≤ last_time };
-
-    ghost inverse = { λ m. record { time = m.time; microstep = m.microstep } };
+    ghost within_the_horizon: { time ≤ 1000000000000000000 },
 }
 
 impl Tag {
+    ghost use Rattle.std.specs.Prelude.{◌≡◌, ◌<◌, ◌↔◌, IsTrue, IsNone};
+    ghost use Rattle.std.specs.Option.{option_map};
+    ghost use Rattle.std.specs.declared.cmp.Ordering.TheVariants.{Less, Equal, Greater};
+    ghost use Rattle.tags.specs.Tags.{moment_of, tag_at, last_time, last_microstep, within_horizon, tag_plus, BeyondHorizon, Before, TotalOrder, LaterThanItsStart};
+
     pub fn new(time: u64, microstep: u16) -> Option<Tag>
-        ensures the_tag_of_that_time_and_microstep { result ≡ within_horizon (tag_at time microstep) }
+        ensures the_tag_of_that_time_and_microstep { option_map moment_of result ≡ within_horizon (tag_at time microstep) }
         ensures none_exactly_beyond_the_horizon { IsNone result ↔ (last_time < time) }
     {
         if time <= HORIZON {
@@ -39,14 +32,14 @@ impl Tag {
     }
 
     pub fn time(&self) -> u64
-        ensures the_time { result ≡ self.now.time }
+        ensures the_time { result ≡ (moment_of self.now).time }
         ensures up_to_the_horizon { result ≤ last_time }
     {
         self.time
     }
 
     pub fn microstep(&self) -> u16
-        ensures the_microstep { result ≡ self.now.microstep }
+        ensures the_microstep { result ≡ (moment_of self.now).microstep }
         ensures up_to_the_last { result ≤ last_microstep }
     {
         self.microstep
@@ -54,8 +47,8 @@ impl Tag {
 
     // The tag that follows after the delay: at delay 0 the next microstep, else microstep 0 of the later time.
     pub fn plus(&self, delay: u64) -> Option<Tag>
-        ensures the_sum_or_none { result ≡ tag_plus self.now delay }
-        ensures none_exactly_beyond_the_horizon { IsNone result ↔ BeyondHorizon self.now delay }
+        ensures the_sum_or_none { option_map moment_of result ≡ tag_plus (moment_of self.now) delay }
+        ensures none_exactly_beyond_the_horizon { IsNone result ↔ BeyondHorizon (moment_of self.now) delay }
         ensures later_than_its_start { LaterThanItsStart }
     {
         if delay == 0 {
@@ -67,16 +60,16 @@ impl Tag {
 
     // These two stay beside the derived order: their contracts say what it is.
     pub fn compare(&self, other: &Tag) -> Ordering
-        ensures less_exactly_when_before { (result ≡ Less) ↔ Before self.now other.now }
-        ensures equal_exactly_when_the_same { (result ≡ Equal) ↔ (self.now ≡ other.now) }
-        ensures greater_exactly_when_after { (result ≡ Greater) ↔ Before other.now self.now }
+        ensures less_exactly_when_before { (result ≡ Less) ↔ Before (moment_of self.now) (moment_of other.now) }
+        ensures equal_exactly_when_the_same { (result ≡ Equal) ↔ (moment_of self.now ≡ moment_of other.now) }
+        ensures greater_exactly_when_after { (result ≡ Greater) ↔ Before (moment_of other.now) (moment_of self.now) }
         ensures a_total_order { TotalOrder }
     {
         self.cmp(other)
     }
 
     pub fn is_before(&self, other: &Tag) -> bool
-        ensures { IsTrue result ↔ Before self.now other.now }
+        ensures { IsTrue result ↔ Before (moment_of self.now) (moment_of other.now) }
     {
         self < other
     }
