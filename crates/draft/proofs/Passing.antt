@@ -2,6 +2,7 @@
 use Rattle.std.proofs.Common.{◌≡◌, ℕ, List, Ok, Err, Result, refl}
 use Rattle.std.specs.Result.{IsErrAnd}
 use Rattle.network.specs.Assembling.{Takes}
+use Rattle.network.specs.Held.{held}
 use Rattle.outline.specs.Telling.{Tells}
 use Rattle.outline.specs.declared.declared.Declared.{Declared}
 use Rattle.outline.specs.declared.progress.Progress.{Progress}
@@ -15,6 +16,6 @@ pub passed_unread : (from : Draft) (line : List ℕ) (r : Result Declared BuildE
 passed_unread from line (Ok d) e is tells = absurd is
 passed_unread from line (Err why) e is tells = rw is (unread e tells refl)
 
-pub passed_not_taken : (from to : Draft) (line : List ℕ) (r : Result Declared BuildError) (d : Declared) (after : Progress) (e : BuildError) → IsErrAnd r (λ why. why ≡ e) → Tells from.progress line after (Ok d) → IsNetworks d.record → Takes from.assembly line (Err e) to.assembly → to.progress ≡ from.progress → Drafts from line to r
+pub passed_not_taken : (from to : Draft) (line : List ℕ) (r : Result Declared BuildError) (d : Declared) (after : Progress) (e : BuildError) → IsErrAnd r (λ why. why ≡ e) → Tells from.progress line after (Ok d) → IsNetworks d.record → Takes (held from.assembly) line (Err e) (held to.assembly) → to.progress ≡ from.progress → Drafts from line to r
 passed_not_taken from to line (Ok x) d after e is tells of_network takes same = absurd is
 passed_not_taken from to line (Err why) d after e is tells of_network takes same = rw is (not_taken d after e tells of_network takes same)

@@ -7,6 +7,7 @@ use Rattle.lines.specs.Sections.{home}
 use Rattle.lines.specs.declared.records.Record.{Record}
 use Rattle.lines.specs.declared.section.Section.TheVariants.{Setup, Network}
 use Rattle.network.specs.Assembling.{Takes}
+use Rattle.network.specs.Held.{held}
 use Rattle.network.specs.Tables.{no_parts}
 use Rattle.network.specs.declared.assembly.Assembly.{Assembly}
 use Rattle.outline.specs.Counting.{no_counts}
@@ -24,16 +25,16 @@ IsNetworks r = home (mark_of r) ≡ Network
 
 -- a line is told as it stands; one of the network is also taken into it, and where that refuses it, it is refused and nothing changes
 pub data Drafts (from : Draft) (line : List ℕ) (to : Draft) : Result Declared BuildError → Type 0 where
-  elsewhere : (d : Declared) → Tells from.progress line to.progress (Ok d) → (IsNetworks d.record → ⊥) → to.assembly ≡ from.assembly → Drafts from line to (Ok d)
-  accepted : (d : Declared) → Tells from.progress line to.progress (Ok d) → IsNetworks d.record → Takes from.assembly line (Ok tt) to.assembly → Drafts from line to (Ok d)
-  unread : (e : Refusal) → Tells from.progress line to.progress (Err e) → to.assembly ≡ from.assembly → Drafts from line to (Err (Refused e))
-  not_taken : (d : Declared) (after : Progress) (e : BuildError) → Tells from.progress line after (Ok d) → IsNetworks d.record → Takes from.assembly line (Err e) to.assembly → to.progress ≡ from.progress → Drafts from line to (Err e)
+  elsewhere : (d : Declared) → Tells from.progress line to.progress (Ok d) → (IsNetworks d.record → ⊥) → held to.assembly ≡ held from.assembly → Drafts from line to (Ok d)
+  accepted : (d : Declared) → Tells from.progress line to.progress (Ok d) → IsNetworks d.record → Takes (held from.assembly) line (Ok tt) (held to.assembly) → Drafts from line to (Ok d)
+  unread : (e : Refusal) → Tells from.progress line to.progress (Err e) → held to.assembly ≡ held from.assembly → Drafts from line to (Err (Refused e))
+  not_taken : (d : Declared) (after : Progress) (e : BuildError) → Tells from.progress line after (Ok d) → IsNetworks d.record → Takes (held from.assembly) line (Err e) (held to.assembly) → to.progress ≡ from.progress → Drafts from line to (Err e)
 
 -- nothing was told yet
 pub record Fresh (d : Draft) : Type 0 where
   pub section : d.progress.section ≡ Setup
   pub counts : d.progress.counts ≡ no_counts
-  pub parts : d.assembly ≡ no_parts
+  pub parts : held d.assembly ≡ no_parts
 
 -- a line is told, whether or not it is refused
 pub record Passes (from : Draft) (line : List ℕ) (to : Draft) : Type 0 where

@@ -1,5 +1,6 @@
 // A file as far as it was read, and what its next line says.
 ghost use Rattle.std.specs.Prelude.{◌≡◌, ◌↔◌, IsTrue, OnOk, OnErr};
+ghost use Rattle.network.specs.Held.{held};
 ghost use Rattle.draft.specs.Drafting.{Drafts, Fresh, IsNetworks, Passes};
 
 use lines::Record;
@@ -43,7 +44,7 @@ impl Draft {
     // What the next line declares; a line that the network refuses is refused, and not counted.
     pub fn tell<'a>(&mut self, line: &'a [u8]) -> Result<Declared<'a>, BuildError>
         ensures told { Drafts self.old line.now self.new result }
-        ensures unchanged { OnErr result (self.new ≡ self.old) }
+        ensures unchanged { OnErr result ((self.new.progress ≡ self.old.progress) × (held self.new.assembly ≡ held self.old.assembly)) }
     {
         let mut next = self.progress;
         let declared = next.tell(line)?;

@@ -4,7 +4,9 @@ use Rattle.std.specs.Option.{MatchOption}
 use Rattle.std.proofs.lemmas.List.FromFn.{length-map-range_with_len}
 use Rattle.levels.specs.Chains.{Level, longest}
 use Rattle.levels.proofs.Along.{round_circle}
+use Rattle.network.specs.Held.{held}
 use Rattle.network.specs.Tables.{Parts}
+use Rattle.network.specs.declared.assembly.Assembly.{Assembly}
 use Rattle.precedence.specs.Answers.{Answers, Means, levels_of}
 use Rattle.precedence.specs.Direct.{Directly}
 use Rattle.precedence.specs.Errors.{Why}
@@ -15,9 +17,9 @@ use Rattle.refusals.specs.declared.error.BuildError.{BuildError}
 use Rattle.frozen.specs.Freezing.{Circular, Freezes}
 use Rattle.frozen.specs.Reading.{Leveled}
 
-pub handed_back : (p q : Parts) (e : PrecedenceError) (r : BuildError) → q ≡ p → Answers q (Err e) → Why e r → Freezes p (Err (p, r))
-handed_back p q (error.Circle v) r same round is = subst (λ (x : BuildError). Freezes p (Err (p, x))) (sym is) (refl, refl, subst Circular same (round_circle (vec_items v) round))
-handed_back p q (error.NoMemory e) r same answer is = subst (λ (x : BuildError). Freezes p (Err (p, x))) (sym is) refl
+pub handed_back : (a : Assembly) (p : Parts) (e : PrecedenceError) (r : BuildError) → p ≡ held a → Answers p (Err e) → Why e r → Freezes a (Err (a, r))
+handed_back a p (error.Circle v) r same round is = subst (λ (x : BuildError). Freezes a (Err (a, x))) (sym is) (refl, refl, subst Circular same (round_circle (vec_items v) round))
+handed_back a p (error.NoMemory e) r same answer is = subst (λ (x : BuildError). Freezes a (Err (a, x))) (sym is) refl
 
 size : (p : Parts) → length (levels_of p) ≡ length p.reactions
 size p = length-map-range_with_len (longest (graph p) (length p.reactions)) 0 (length p.reactions)

@@ -2,7 +2,8 @@
 ghost use Rattle.std.specs.Prelude.{◌≡◌, ℕ, List, [], ◌∷◌, ◌++◌, is_ok, MatchBool};
 ghost use Rattle.network.specs.Assembling.{Assembled, OneMeaning, Takes};
 ghost use Rattle.network.specs.Held.{held};
-ghost use Rattle.network.specs.Tables.{Parts, no_parts};
+ghost use Rattle.network.specs.Tables.{no_parts};
+ghost use Rattle.network.specs.declared.tables.Tables.{Tables as AnyTables};
 
 use crate::parts::Declaration;
 use crate::tables::Tables;
@@ -17,14 +18,14 @@ pub struct Assembly {
 }
 
 impl Model for Assembly {
-    ghost Value = { Parts };
+    ghost Value = { AnyTables };
 
-    ghost view = { λ a. held a.tables };
+    ghost view = { λ a. a.tables };
 }
 
 impl Assembly {
     pub fn new(heap: Global) -> Assembly
-        ensures nothing_declared { result ≡ no_parts }
+        ensures nothing_declared { held result ≡ no_parts }
     {
         Assembly {
             tables: Tables::new(heap),
@@ -33,16 +34,16 @@ impl Assembly {
 
     // What was declared so far.
     pub fn tables(&self) -> &Tables
-        ensures what_it_declares { held result.now ≡ self.now }
+        ensures what_it_declares { result.now ≡ self.now }
     {
         &self.tables
     }
 
     // Takes one more line of a network.
     pub fn add(&mut self, line: &[u8]) -> Result<(), BuildError>
-        ensures takes { Takes self.old line.now result self.new }
-        ensures leads { (ls : List (List ℕ)) → Assembled ls self.old
-            → MatchBool (is_ok result) (Assembled (ls ++ line.now ∷ []) self.new) (Assembled ls self.new) }
+        ensures takes { Takes (held self.old) line.now result (held self.new) }
+        ensures leads { (ls : List (List ℕ)) → Assembled ls (held self.old)
+            → MatchBool (is_ok result) (Assembled (ls ++ line.now ∷ []) (held self.new)) (Assembled ls (held self.new)) }
         ensures one_meaning { OneMeaning }
     {
         let said = read(line, Section::Network)?;

@@ -1,5 +1,6 @@
 -- What a survey tells.
 use Rattle.std.specs.Prelude.{◌≡◌, length, vec_items}
+use Rattle.frozen.specs.Freezing.{declared_by}
 use Rattle.levels.specs.Chains.{Round}
 use Rattle.network.specs.Tables.{Parts}
 use Rattle.precedence.specs.Direct.{Directly}
@@ -14,7 +15,7 @@ counted p = record { reactors = p.reactors; inputs = length p.inputs; outputs = 
 
 -- the frozen network, or a circle
 abbrev pub Orders : Parts → Order → Type 0
-Orders p (order.Levels n) = n ≡ p
+Orders p (order.Levels n) = declared_by n ≡ p
 Orders p (order.Circle v) = Round (Directly p) (vec_items v)
 
 pub record Surveys (p : Parts) (s : Survey) : Type 0 where

@@ -1,6 +1,5 @@
 // A network seen as a whole.
 ghost use Rattle.std.specs.Prelude.{◌≡◌, IfOk, vec_items};
-ghost use Rattle.frozen.specs.Freezing.{Circular};
 ghost use Rattle.levels.specs.Chains.{Round};
 ghost use Rattle.network.specs.Held.{held};
 ghost use Rattle.precedence.specs.Direct.{Directly};
@@ -8,7 +7,6 @@ ghost use Rattle.precedence.specs.Direct.{Directly};
 use frozen::{Network, freeze};
 use network::{Assembly, Tables};
 use precedence::{Precedence, PrecedenceError};
-use refusals::BuildError;
 use std::alloc::{AllocError, Global};
 
 #[derive(Clone, Copy, Debug, PartialEq, Eq)]
@@ -55,25 +53,22 @@ impl Order {
     ghost use Rattle.survey.specs.Surveying.{Orders};
 
     fn of(heap: Global, assembly: Assembly) -> Result<Order, AllocError>
-        ensures { IfOk result (Orders assembly) }
+        ensures { IfOk result (Orders (held assembly)) }
     {
         match freeze(heap, assembly) {
             Ok(network) => Ok(Order::Levels(network)),
-            Err((assembly, BuildError::Refused(_))) => {
-                Ok(Order::Circle(circle_in(heap, &assembly)?))
-            }
-            Err((_, BuildError::NoMemory(why))) => Err(why),
+            // After a want of memory too: there may be some by now.
+            Err((assembly, _)) => Ok(Order::Circle(circle_in(heap, &assembly)?)),
         }
     }
 }
 
-// A circle of an assembly that has one.
+// A circle of an assembly that was not frozen; where it has none, memory was wanting before.
 fn circle_in(heap: Global, assembly: &Assembly) -> Result<Vec<usize>, AllocError>
-    requires { Circular assembly.now }
-    ensures { IfOk result (λ circle. Round (Directly assembly.now) (vec_items circle)) }
+    ensures { IfOk result (λ circle. Round (Directly (held assembly.now)) (vec_items circle)) }
 {
     match Precedence::of(heap, assembly.tables()) {
-        Ok(_) => unreachable(),
+        Ok(_) => Err(AllocError),
         Err(PrecedenceError::Circle(circle)) => Ok(circle),
         Err(PrecedenceError::NoMemory(why)) => Err(why),
     }
@@ -89,7 +84,7 @@ impl Survey {
     ghost use Rattle.survey.specs.Surveying.{Surveys};
 
     pub fn of(heap: Global, assembly: Assembly) -> Result<Survey, AllocError>
-        ensures { IfOk result (Surveys assembly) }
+        ensures { IfOk result (Surveys (held assembly)) }
     {
         let totals = Totals::of(assembly.tables());
         let order = Order::of(heap, assembly)?;
