@@ -1,2 +1,3 @@
 pub mod Acceptance
+mod Counting
 pub mod Meanings

@@ -131,8 +131,12 @@ impl Tables {
     }
 }
 
+// A fold makes a tighter loop than `filter` and `count`; its sum never wraps.
 fn count_with_key<T: Keyed>(rows: &[T], key: usize) -> usize
     ensures { result ≡ count_by (λ row. T.key_of row == key) rows.now }
 {
-    rows.iter().filter(|row| row.key() == key).count()
+    rows.iter().fold(
+        0,
+        |count: usize, row| count.wrapping_add(usize::from(row.key() == key)),
+    )
 }
