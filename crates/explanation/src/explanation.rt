@@ -32,6 +32,7 @@ where
         return writeln!(f, "the input is longer than {MOST_BYTES} bytes");
     }
     for (number, line) in (1u64..).zip(Lines::of(input)) {
+        // before the line is told, which may fail
         write!(f, "{number}: ")?;
         let told = tell(line)?;
         writeln!(f, "{}", Said { told })?;

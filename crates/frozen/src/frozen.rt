@@ -9,7 +9,8 @@ use network::{Assembly, Connection, Tables, Target, Trigger};
 use precedence::Precedence;
 use rows::group_at;
 
-// What its assembly declared, and what follows of precedence: there is no circle.
+// What its assembly declared, and what follows of precedence: there is no circle. With a ghost field and no model:
+// whoever has a network knows it with no call.
 #[derive(Drop)]
 pub struct Network {
     pub(crate) assembly: Assembly,

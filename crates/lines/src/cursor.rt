@@ -30,7 +30,8 @@ impl<'a> Cursor<'a> {
         &self.line[self.place..]
     }
 
-    // The field in front of what is left, after one space.
+    // The field in front of what is left, after one space. Inlined, as is `integer_in_front`: with a call for each field
+    // a line of short ones takes a third longer.
     #[inline(always)]
     pub(crate) fn next(&mut self, kind: Kind) -> Option<Token>
         ensures { MatchOption result (NoField (left self.old) kind) (λ t. Takes self.old kind t self.new) }

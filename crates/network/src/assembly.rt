@@ -17,6 +17,7 @@ pub struct Assembly {
     tables: Tables,
 }
 
+// All of its tables, room for more too: an assembly that is handed back is the same in all.
 impl Model for Assembly {
     ghost Value = { AnyTables };
 
