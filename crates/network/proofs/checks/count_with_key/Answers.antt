@@ -8,5 +8,5 @@ pub returns : goal.returns
 returns g c =
     let short = c.iter.ensures.bound in
     let long = c.iter.ensures.len in
-    fold_from_yields_List _ (λ n row. (n + cond (g.T.Keyed.key_of row == c.args.key) 1 0) % 2 ^ 64) 0 c.fold.result c.fold.ensures.ran (YieldsList-from_slice c.args.rows.now c.iter.ensures.rest) (λ a x b q k. search (rules, tests))
+    fold_from_yields_List _ (λ n row. (n + cond (g.T.Keyed.key_of row == c.args.key) 1 0) % 2 ^ 64) _ c.fold.result c.fold.ensures.ran (YieldsList-from_slice c.args.rows.now c.iter.ensures.rest) (λ a x b q k. search (rules, tests))
     ∙ counted (λ row. g.T.Keyed.key_of row == c.args.key) c.args.rows.now (omega arith)
