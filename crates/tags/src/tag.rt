@@ -6,7 +6,8 @@ use std::cmp::Ordering;
 // The last time that a tag may have.
 pub const HORIZON: u64 = 1_000_000_000_000_000_000;
 
-// Ordered by time, then by microstep. With a ghost field and no model: whoever holds a tag knows the fact with no call.
+// Ordered by time, then by microstep. Its bound is a ghost field and no model's invariant, so that whoever holds a tag has
+// it with no call.
 #[derive(Clone, Copy, Debug, PartialEq, Eq, PartialOrd, Ord, Hash)]
 pub struct Tag {
     time: u64,
